@@ -1,0 +1,3 @@
+pub mod Gridding
+pub mod States
+pub mod Trailing

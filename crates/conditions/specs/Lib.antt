@@ -1,0 +1,4 @@
+pub mod Grids
+pub mod Meaning
+pub mod Sums
+pub mod Trails

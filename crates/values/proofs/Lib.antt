@@ -1,0 +1,4 @@
+pub mod DecimalText
+pub mod PriceReading
+pub mod Pricing
+pub mod Targets
