@@ -1,3 +1,5 @@
+pub mod Averaging
 pub mod Gridding
 pub mod States
+pub mod Summing
 pub mod Trailing

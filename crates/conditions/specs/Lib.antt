@@ -1,4 +1,6 @@
+pub mod Closes
 pub mod Grids
 pub mod Meaning
 pub mod Sums
+pub mod Tests
 pub mod Trails

@@ -3,4 +3,5 @@ pub mod condition;
 pub mod event;
 pub mod grid;
 pub mod sums;
+pub mod test;
 pub mod trail;

@@ -1,6 +1,8 @@
 ghost use lib.Dec.{T};
 ghost use Rattle.conditions.specs.Sums.{sums};
 
+pub mod making;
+
 // The sums of a share's newest 4, 9, 19, 29 and 59 closes, each 0 where there are fewer.
 #[derive(Clone, Copy, PartialEq, Eq, Debug)]
 pub struct Sums {

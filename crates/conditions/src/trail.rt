@@ -81,7 +81,7 @@ impl<D: Direction> Trail<D> {
     fn begin(&self, price: Price) -> TrailState
         ensures { λ r. ⌜ r ≡ begun (D·Direction .order) (now (self .entry) .terms) price ⌝ }
     {
-        if D::reaches(self.terms.mark.value(), price.value()) {
+        if D::passes(self.terms.mark, price) {
             TrailState::Tracking { extreme: price }
         } else {
             TrailState::Idle
@@ -92,14 +92,14 @@ impl<D: Direction> Trail<D> {
     fn further(&self, extreme: Price, price: Price) -> Price
         ensures { λ r. ⌜ r ≡ cond (D·Direction .order (price .value) (extreme .value)) price extreme ⌝ }
     {
-        if D::reaches(extreme.value(), price.value()) { price } else { extreme }
+        if D::passes(extreme, price) { price } else { extreme }
     }
 
     // The trigger price, where a price has reached the target of the extreme.
     fn at_target(&self, extreme: Price, price: Price) -> Option<Price>
         ensures { λ r. ⌜ r ≡ by-target (D·Direction .order) (D·Direction .target) (now (self .entry) .terms) extreme price ⌝ }
     {
-        if self.terms.options.stay && !D::reaches(self.terms.mark.value(), price.value()) {
+        if self.terms.options.stay && !D::passes(self.terms.mark, price) {
             return None;
         }
         D::reached(self.terms.step, extreme, price)
@@ -109,9 +109,9 @@ impl<D: Direction> Trail<D> {
     fn at_floor(&self, before: Price, price: Price) -> Option<Price>
         ensures { λ r. ⌜ r ≡ by-floor (D·Direction .order) (now (self .entry) .terms) before price ⌝ }
     {
-        let mark = self.terms.mark.value();
-        if self.terms.options.floor && !D::reaches(before.value(), mark) && D::reaches(price.value(), mark) {
-            return Some(self.terms.mark);
+        let mark = self.terms.mark;
+        if self.terms.options.floor && !D::passes(before, mark) && D::passes(price, mark) {
+            return Some(mark);
         }
         None
     }

@@ -18,4 +18,9 @@ ghost-result g c =
 
 pub returns-then-reaches : need.returns-then-reaches
 returns-then-reaches g c =
-    reached-at (g .Self·Direction .order) (g .Self·Direction .target) (c .args .step) (c .args .base) (c .args .price) _ (c .target-of-goal .ensures) (c .if-reaches .ensures tt)
+    let order = g .Self·Direction .order in
+    let hit : true ≡ order (c .target-of-goal .result) (c .args .price .value) = c .if-reaches .ensures tt in
+    record {
+      value = reached-at order (g .Self·Direction .target) (c .args .step) (c .args .base) (c .args .price) _ (c .target-of-goal .ensures) hit;
+      found = hit ∙ ap (λ n. order n (c .args .price .value)) (c .target-of-goal .ensures);
+    }
