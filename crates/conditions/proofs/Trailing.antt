@@ -12,8 +12,8 @@ use Rattle.values.specs.Prices.{reached-target}
 use Rattle.values.specs.declared.price.Price.{Price}
 use Rattle.values.specs.declared.step.Step.{Step}
 use Rattle.values.proofs.Pricing.{reached-itself}
-use Rattle.conditions.specs.Meaning.{Meaning, after, ends, Repeats, Proper}
-use Rattle.conditions.specs.Trails.{prices, fires-over, watch, least, some-below, by-target, at-floor, trigger, watched, trail-means, begun, by-floor}
+use Rattle.conditions.specs.Meaning.{Meaning, after, ends, fires-over, Repeats, Proper}
+use Rattle.conditions.specs.Trails.{prices, watch, least, some-below, by-target, at-floor, trigger, watched, trail-means, begun, by-floor}
 use Rattle.conditions.specs.declared.event.Tick.{Tick}
 use Rattle.conditions.specs.declared.event.Event.{Event}
 use Rattle.conditions.specs.declared.event.Event.the-variants as event
@@ -23,6 +23,7 @@ use Rattle.conditions.specs.declared.event.Answer.the-variants as answer
 use Rattle.conditions.specs.declared.trail.TrailTerms.{TrailTerms}
 use Rattle.conditions.specs.declared.trail.TrailState.{TrailState}
 use Rattle.conditions.specs.declared.trail.TrailState.the-variants as state
+use Rattle.conditions.proofs.Prompting.{not-over}
 use Rattle.conditions.proofs.States.{Rests, Once, lawful}
 
 module _ (order : ℕ → ℕ → Bool) (target : Step → ℕ → ℕ) (total : TotalOrder order) (terms : TrailTerms) where
@@ -129,10 +130,6 @@ module _ (order : ℕ → ℕ → Bool) (target : Step → ℕ → ℕ) (total :
           waits = ap (λ b. fires-over (terms .side) (trigger order target terms [] (cond b (t .price ∷ []) []) (t .price))) e;
           stays = ap (λ b. cond b (state.Tracking (t .price)) state.Idle) e;
         }
-
-    not-over : (s : Side) (o : Option Price) → ends (fires-over s o) ≡ false → fires-over s o ≡ answer.Wait
-    not-over s (Some t) e = absurd (clash (sym e))
-    not-over s None e = refl
 
     from-idle : (b : Bool) (t : Tick) → b ≡ order (t .price .value) m → Rests M told (cond b (state.Tracking (t .price)) state.Idle) t
     from-idle true t e = rests-new t

@@ -1,6 +1,7 @@
 pub mod Closes
 pub mod Grids
 pub mod Meaning
+pub mod Prompts
 pub mod Sums
 pub mod Tests
 pub mod Trails

@@ -2,11 +2,14 @@
 use mathlib.Core.Path.{_≡_}
 use mathlib.Core.List.{List, [], _∷_, _++_}
 use mathlib.Core.Bool.{Bool, true, false}
+use Rattle.std.specs.declared.option.Option.{Option}
+use Rattle.std.specs.declared.option.Option.the-variants.{Some, None}
 use Rattle.values.specs.declared.price.Price.{Price}
 use Rattle.conditions.specs.declared.event.Tick.{Tick}
 use Rattle.conditions.specs.declared.event.Day.{Day}
 use Rattle.conditions.specs.declared.event.Event.{Event}
 use Rattle.conditions.specs.declared.event.Event.the-variants as event
+use Rattle.conditions.specs.declared.event.Side.{Side}
 use Rattle.conditions.specs.declared.event.Next.{Next}
 use Rattle.conditions.specs.declared.event.Next.the-variants as next
 use Rattle.conditions.specs.declared.event.Answer.{Answer}
@@ -35,6 +38,11 @@ abbrev pub fires : Answer → Bool
 fires answer.Wait = false
 fires (answer.Fires f) = true
 fires answer.Lapses = false
+
+-- a trigger price, if there is one, fires, and the condition is over
+abbrev pub fires-over : Side → Option Price → Answer
+fires-over s None = answer.Wait
+fires-over s (Some t) = answer.Fires (record { side = s; trigger = t; next = next.Over })
 
 -- no answer to the events of h ended the condition
 abbrev pub Live : Meaning → List Event → Type 0

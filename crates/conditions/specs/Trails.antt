@@ -10,13 +10,11 @@ use Rattle.values.specs.Directions.{rising-order, rising-target, falling-order,
 use Rattle.values.specs.Prices.{reached-target}
 use Rattle.values.specs.declared.price.Price.{Price}
 use Rattle.values.specs.declared.step.Step.{Step}
-use Rattle.conditions.specs.Meaning.{Meaning}
+use Rattle.conditions.specs.Meaning.{Meaning, fires-over}
 use Rattle.conditions.specs.declared.event.Event.{Event}
 use Rattle.conditions.specs.declared.event.Event.the-variants as event
 use Rattle.conditions.specs.declared.event.Side.{Side}
 use Rattle.conditions.specs.declared.event.Side.the-variants as side
-use Rattle.conditions.specs.declared.event.Next.the-variants as next
-use Rattle.conditions.specs.declared.event.Answer.{Answer}
 use Rattle.conditions.specs.declared.event.Answer.the-variants as answer
 use Rattle.conditions.specs.declared.trail.TrailOptions.{TrailOptions}
 use Rattle.conditions.specs.declared.trail.TrailTerms.{TrailTerms}
@@ -29,11 +27,6 @@ prices [] = []
 prices (event.Tick t ∷ es) = t .price ∷ prices es
 prices (event.Day d ∷ es) = prices es
 prices (event.Settlement p ∷ es) = prices es
-
--- a trigger price fires, and the condition is over
-abbrev pub fires-over : Side → Option Price → Answer
-fires-over s None = answer.Wait
-fires-over s (Some t) = answer.Fires (record { side = s; trigger = t; next = next.Over })
 
 -- The words below are the rebound's, where the price turns upward: order is at most, and a target lies above.
 -- A fall-back has them mirrored.

@@ -1,3 +1,5 @@
+ghost use mathlib.Core.Path.{_≡_};
+ghost use Rattle.conditions.specs.Meaning.{fires-over};
 use crate::sums::Sums;
 use crate::sums::SumsDebug;
 use crate::sums::SumsPartialEq;
@@ -52,6 +54,18 @@ pub struct Fire {
     pub side: Side,
     pub trigger: Price,
     pub next: Next,
+}
+
+impl Fire {
+    // The answer of a condition that is over once it fires, by the trigger price if there is one.
+    pub fn over_at(side: Side, trigger: Option<Price>) -> Answer
+        ensures { λ r. ⌜ r ≡ fires-over side trigger ⌝ }
+    {
+        match trigger {
+            Some(trigger) => Answer::Fires(Fire { side, trigger, next: Next::Over }),
+            None => Answer::Wait,
+        }
+    }
 }
 
 // What a condition answers. After a fire that is over, or a lapse, it is told no more.

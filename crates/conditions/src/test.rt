@@ -14,8 +14,8 @@ pub mod prompt;
 
 pub trait Test {
     // the trigger price where the answer is yes
-    ghost yes: { Self → Day → Price → Maybe Price };
+    ghost trigger: { Self → Day → Price → Maybe Price };
 
     fn judge(&self, day: &Day, price: Price) -> Option<Price>
-        ensures { λ r. ⌜ r ≡ yes (now (self .entry)) (now (day .entry)) price ⌝ };
+        ensures { λ r. ⌜ r ≡ trigger (now (self .entry)) (now (day .entry)) price ⌝ };
 }

@@ -3,13 +3,13 @@ ghost use mathlib.Core.Path.{_≡_};
 ghost use mathlib.Core.Bool.{cond};
 ghost use Rattle.std.specs.Options.{orOther};
 ghost use Rattle.values.specs.Directions.{rising-order, rising-target, falling-order, falling-target};
-ghost use Rattle.conditions.specs.Trails.{trail-means, rebound, fall-back, begun, by-target, by-floor, fires-over};
+ghost use Rattle.conditions.specs.Meaning.{fires-over};
+ghost use Rattle.conditions.specs.Trails.{trail-means, rebound, fall-back, begun, by-target, by-floor};
 ghost use Rattle.conditions.specs.declared.trail.TrailState.the-variants as state;
 use crate::condition::Condition;
 use crate::event::Answer;
 use crate::event::Event;
 use crate::event::Fire;
-use crate::event::Next;
 use crate::event::Side;
 use crate::event::SideDebug;
 use crate::event::SidePartialEq;
@@ -120,10 +120,7 @@ impl<D: Direction> Trail<D> {
     fn judge(&self, before: Price, extreme: Price, price: Price) -> Answer
         ensures { λ r. ⌜ r ≡ fires-over (now (self .entry) .terms .side) (orOther (by-target (D·Direction .order) (D·Direction .target) (now (self .entry) .terms) extreme price) (by-floor (D·Direction .order) (now (self .entry) .terms) before price)) ⌝ }
     {
-        match self.at_target(extreme, price).or(self.at_floor(before, price)) {
-            Some(trigger) => Answer::Fires(Fire { side: self.terms.side, trigger, next: Next::Over }),
-            None => Answer::Wait,
-        }
+        Fire::over_at(self.terms.side, self.at_target(extreme, price).or(self.at_floor(before, price)))
     }
 }
 

@@ -42,7 +42,7 @@ impl<D> Average<D> {
 }
 
 pub impl<D: Direction> Test for Average<D> as AverageTest {
-    ghost yes = { λ a d p. average-yes (D·Direction .order) (a .days) d p };
+    ghost trigger = { λ a d p. average-yes (D·Direction .order) (a .days) d p };
 
     // A yes always has its trigger price.
     fn judge(&self, day: &Day, price: Price) -> Option<Price>

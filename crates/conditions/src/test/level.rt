@@ -24,7 +24,7 @@ impl<D> Level<D> {
 }
 
 pub impl<D: Direction> Test for Level<D> as LevelTest {
-    ghost yes = { λ l _ p. level-yes (D·Direction .order) (l .price) p };
+    ghost trigger = { λ l _ p. level-yes (D·Direction .order) (l .price) p };
 
     fn judge(&self, _day: &Day, price: Price) -> Option<Price> {
         if D::passes(price, self.price) { Some(self.price) } else { None }

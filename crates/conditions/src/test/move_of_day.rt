@@ -35,7 +35,7 @@ impl<D> MoveOfDay<D> {
 }
 
 pub impl<D: Direction> Test for MoveOfDay<D> as MoveOfDayTest {
-    ghost yes = { λ m d p. move-yes (D·Direction .order) (D·Direction .target) (D·Direction .furthest) (m .distance) d p };
+    ghost trigger = { λ m d p. move-yes (D·Direction .order) (D·Direction .target) (D·Direction .furthest) (m .distance) d p };
 
     fn judge(&self, day: &Day, price: Price) -> Option<Price> {
         match self.distance {
