@@ -1,5 +1,6 @@
 pub mod Averaging
 pub mod Gridding
+pub mod Holding
 pub mod Prompting
 pub mod States
 pub mod Summing

@@ -1,5 +1,6 @@
 pub mod Closes
 pub mod Grids
+pub mod Holds
 pub mod Meaning
 pub mod Prompts
 pub mod Sums
