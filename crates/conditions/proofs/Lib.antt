@@ -1,7 +1,3 @@
-pub mod Averaging
-pub mod Gridding
-pub mod Holding
-pub mod Prompting
+pub mod Layering
 pub mod States
 pub mod Summing
-pub mod Trailing

@@ -1,8 +1,4 @@
 pub mod Closes
-pub mod Grids
-pub mod Holds
+pub mod Layers
 pub mod Meaning
-pub mod Prompts
 pub mod Sums
-pub mod Tests
-pub mod Trails

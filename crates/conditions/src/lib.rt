@@ -1,7 +1,5 @@
-// What an order waits for: the events that it is told, its answers, and the conditions themselves.
+// What an order waits for: the events that it is told, its answers, and the layers over any condition.
 pub mod condition;
 pub mod event;
-pub mod grid;
+pub mod layer;
 pub mod sums;
-pub mod test;
-pub mod trail;

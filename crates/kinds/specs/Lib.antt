@@ -1,0 +1,5 @@
+pub mod Grids
+pub mod Holds
+pub mod Prompts
+pub mod Tests
+pub mod Trails

@@ -1,0 +1,4 @@
+// The order kinds, each a condition whose meaning is the kind's definition.
+pub mod grid;
+pub mod test;
+pub mod trail;
