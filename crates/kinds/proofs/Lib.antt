@@ -1,4 +1,6 @@
 pub mod Averaging
+pub mod Basing
+pub mod Batching
 pub mod Gridding
 pub mod Holding
 pub mod Prompting

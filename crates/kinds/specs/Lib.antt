@@ -1,3 +1,5 @@
+pub mod Bases
+pub mod Batches
 pub mod Grids
 pub mod Holds
 pub mod Prompts
