@@ -83,8 +83,12 @@ module _ (terms : GridTerms) where
   answer-by None = answer.Wait
   answer-by (Some f) = answer.Fires f
 
+  -- what a price is answered from a base
+  abbrev pub grid-answer : Price → Price → Answer
+  grid-answer base price = answer-by (fire base price)
+
   abbrev pub answer-at : GridStage → Event → Answer
-  answer-at (stage.Watching base) (event.Tick t) = answer-by (fire base (t .price))
+  answer-at (stage.Watching base) (event.Tick t) = grid-answer base (t .price)
   answer-at (stage.Watching base) (event.Day d) = answer.Wait
   answer-at (stage.Watching base) (event.Settlement p) = answer.Wait
   answer-at stage.Awaiting e = answer.Wait
@@ -92,9 +96,15 @@ module _ (terms : GridTerms) where
   abbrev pub grid-means : GridStage → Meaning
   grid-means s es e = answer-at (stage-after s es) e
 
+abbrev pub market-terms : PriceRange → Step → Step → GridTerms
+market-terms r down up = record { mode = mode.Market r; down = down; up = up }
+
+abbrev pub fill-terms : Step → Step → GridTerms
+fill-terms down up = record { mode = mode.Fill; down = down; up = up }
+
 -- what the two modes mean from their placing on
 abbrev pub market-grid : PriceRange → Price → Step → Step → Meaning
-market-grid r base down up = grid-means (record { mode = mode.Market r; down = down; up = up }) (stage.Watching base)
+market-grid r base down up = grid-means (market-terms r down up) (stage.Watching base)
 
 abbrev pub fill-grid : Price → Step → Step → Meaning
-fill-grid base down up = grid-means (record { mode = mode.Fill; down = down; up = up }) (stage.Watching base)
+fill-grid base down up = grid-means (fill-terms down up) (stage.Watching base)
