@@ -1,5 +1,6 @@
 pub mod Bases
 pub mod Batches
+pub mod Cases
 pub mod Grids
 pub mod Holds
 pub mod Prompts

@@ -1,12 +1,12 @@
--- The target of a price lies strictly beyond it, and fits 32 bits.
+-- The two directions keep their laws: the order is total, and the target of a price lies strictly beyond it.
 use mathlib.Core.Path.{_≡_}
 use mathlib.Core.Bool.{true, false}
 use Prim.Native.Nat.{ℕ, _+_, _-_, _*_, _/_, _<_, _≤_}
 use native.Mathlib.Nat.{mul-le-mul, mul-add, mul-sub, le-div-iff-mul-le, div-lt-iff-lt-mul, div-le-of-le-mul}
 use native.Mathlib.Omega.{arith}
 use lib.Dec.{lit<}
-use borrow.Author.Tests.{le-leb, lt-leb}
-use Rattle.values.specs.Directions.{Beyond, rising-order, falling-order, rising-target, falling-target}
+use borrow.Author.Tests.{le-leb, lt-leb, leb-true, leb-false}
+use Rattle.values.specs.Directions.{TotalOrder, Beyond, rising-order, falling-order, rising-target, falling-target}
 use Rattle.values.specs.declared.price.Price.{Price}
 use Rattle.values.specs.declared.step.Step.{Step}
 use Rattle.values.specs.declared.step.Step.the-variants as step
@@ -32,6 +32,24 @@ above b t h = record { past = le-leb _ _ (omega arith); apart = lt-leb _ _ h }
 
 below : (b t : ℕ) → t < b → Beyond falling-order b t
 below b t h = record { past = le-leb _ _ (omega arith); apart = lt-leb _ _ h }
+
+pub rising-total : TotalOrder rising-order
+rising-total =
+    record {
+      itself = λ a. le-leb a a (omega arith);
+      through = λ a b c p q. let x = leb-true a b p in let y = leb-true b c q in le-leb a c (omega arith);
+      same = λ a b p q. let x = leb-true a b p in let y = leb-true b a q in omega arith;
+      either = λ a b p. let x = leb-false a b p in le-leb b a (omega arith);
+    }
+
+pub falling-total : TotalOrder falling-order
+falling-total =
+    record {
+      itself = rising-total .itself;
+      through = λ a b c p q. rising-total .through c b a q p;
+      same = λ a b p q. rising-total .same a b q p;
+      either = λ a b p. rising-total .either b a p;
+    }
 
 pub rising-beyond : (s : Step) (p : Price) → Beyond rising-order (p .value) (rising-target s (p .value))
 rising-beyond (step.Percent r) p = above _ _ (rise _ _ (p .low) (r .low))

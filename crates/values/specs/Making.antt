@@ -10,6 +10,8 @@ use Rattle.values.specs.declared.fault.MakingFault.the-variants as fault
 
 abbrev pub making-number : MakingFault → ℕ
 making-number fault.Price = 1
+making-number fault.StopTarget = 1
+making-number fault.ProfitTarget = 1
 making-number fault.Step = 2
 making-number fault.Range = 3
 making-number fault.Hold = 4

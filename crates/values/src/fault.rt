@@ -8,6 +8,10 @@ use std::fmt;
 pub enum MakingFault {
     // a price outside its ends
     Price,
+    // the target of a stop outside the prices
+    StopTarget,
+    // the target of a profit outside the prices
+    ProfitTarget,
     // a percentage or a difference outside its ends
     Step,
     // the low of a range above its high
@@ -26,7 +30,7 @@ impl MakingFault {
         ensures { λ r. ⌜ r ≡ making-number (now (self .entry)) ⌝ }
     {
         match self {
-            MakingFault::Price => 1,
+            MakingFault::Price | MakingFault::StopTarget | MakingFault::ProfitTarget => 1,
             MakingFault::Step => 2,
             MakingFault::Range => 3,
             MakingFault::Hold => 4,
@@ -40,6 +44,8 @@ pub impl fmt::Display for MakingFault as MakingFaultDisplay {
     fn fmt<W: fmt::Write>(&self, f: &mut fmt::Formatter<W>) -> fmt::Result {
         f.write_str(match self {
             MakingFault::Price => "making: price outside 0.1000 to 99999.9999 yuan",
+            MakingFault::StopTarget => "making: target of the stop outside the prices",
+            MakingFault::ProfitTarget => "making: target of the profit outside the prices",
             MakingFault::Step => "making: step outside 0.10% to 50.00% or 0.0001 to 99999.9999 yuan",
             MakingFault::Range => "making: range with its low above its high",
             MakingFault::Hold => "making: hold outside 1 to 14400 seconds",

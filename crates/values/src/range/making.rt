@@ -1,5 +1,6 @@
 // Apart from the struct, since a file whose clauses cite definitions over a checked struct cannot declare it.
 ghost use mathlib.Core.Path.{_≡_};
+ghost use Rattle.values.specs.Bounds.{least-price, greatest-price};
 ghost use Rattle.values.specs.Making.{seen};
 ghost use Rattle.values.specs.Ranges.{ends, ranged, inside};
 use crate::fault::MakingFault;
@@ -14,6 +15,16 @@ impl PriceRange {
             return Err(MakingFault::Range);
         }
         Ok(PriceRange { low, high })
+    }
+
+    // All prices.
+    pub fn whole() -> PriceRange
+        ensures low { λ r. ⌜ r .low .value ≡ least-price ⌝ }
+        ensures high { λ r. ⌜ r .high .value ≡ greatest-price ⌝ }
+    {
+        let low = Price { value: Price::LEAST };
+        let high = Price { value: Price::GREATEST };
+        PriceRange { low, high }
     }
 
     pub fn low(&self) -> Price
