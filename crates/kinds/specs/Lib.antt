@@ -3,6 +3,7 @@ pub mod Batches
 pub mod Cases
 pub mod Grids
 pub mod Holds
+pub mod Kinds
 pub mod Prompts
 pub mod Tests
 pub mod Trails

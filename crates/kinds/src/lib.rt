@@ -2,6 +2,7 @@
 pub mod batch;
 pub mod book_kinds;
 pub mod grid;
+pub mod making;
 pub mod one_of;
 pub mod test;
 pub mod trail;

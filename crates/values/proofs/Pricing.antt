@@ -45,6 +45,21 @@ made-by n false b l h (Err f) e = cc
 pub made-priced : (n : ℕ) (r : Result Price MakingFault) → seen (λ p. p .value) r ≡ checked least-price greatest-price making.Price n → r ≡ okOr (priced n) making.Price
 made-priced n r e = made-by n (leb least-price n) (leb n greatest-price) refl refl r e
 
+or-some : (o : Option Price) (p : Price) → Ok p ≡ okOr o making.Price → o ≡ Some p
+or-some (Some q) p e = cc
+or-some None p e = cc
+
+or-none : (o : Option Price) (f : MakingFault) → Err f ≡ okOr o making.Price → o ≡ None
+or-none (Some q) f e = cc
+or-none None f e = refl
+
+-- the number that a price was made of, and one that was refused
+pub priced-made : (n : ℕ) (p : Price) → seen (λ q. q .value) (Ok p) ≡ checked least-price greatest-price making.Price n → priced n ≡ Some p
+priced-made n p e = or-some (priced n) p (made-priced n (Ok p) e)
+
+pub priced-refused : (n : ℕ) (f : MakingFault) → seen {X = Price} (λ q. q .value) (Err f) ≡ checked least-price greatest-price making.Price n → priced n ≡ None
+priced-refused n f e = or-none (priced n) f (made-priced n (Err f) e)
+
 module _ (order : ℕ → ℕ → Bool) (target : Step → ℕ → ℕ) (s : Step) where
   -- a price has not reached its own target
   pub reached-itself : (p : Price) → Beyond order (p .value) (target s (p .value)) → reached-target order target s p p ≡ None
