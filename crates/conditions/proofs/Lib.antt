@@ -1,3 +1,4 @@
 pub mod Layering
+pub mod Piling
 pub mod States
 pub mod Summing

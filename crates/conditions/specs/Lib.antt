@@ -1,4 +1,5 @@
 pub mod Closes
 pub mod Layers
 pub mod Meaning
+pub mod Piles
 pub mod Sums

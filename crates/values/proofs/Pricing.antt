@@ -16,7 +16,9 @@ use Rattle.values.specs.Making.{seen, checked}
 use Rattle.values.specs.Prices.{priced, priced-when, reached-target}
 use Rattle.values.specs.declared.fault.MakingFault.{MakingFault}
 use Rattle.values.specs.declared.fault.MakingFault.the-variants as making
+use Rattle.values.specs.Ranges.{whole}
 use Rattle.values.specs.declared.price.Price.{Price}
+use Rattle.values.specs.declared.range.PriceRange.{PriceRange}
 use Rattle.values.specs.declared.step.Step.{Step}
 
 priced-by : (p : Price) (a b : Bool) (l : leb least-price (p .value) ≡ a) (h : leb (p .value) greatest-price ≡ b) → priced-when (p .value) a b l h ≡ Some p
@@ -69,3 +71,14 @@ module _ (order : ℕ → ℕ → Bool) (target : Step → ℕ → ℕ) (s : Ste
   pub reached-at : (base price t : Price) → t .value ≡ target s (base .value) → true ≡ order (t .value) (price .value) → Some t ≡ reached-target order target s base price
   reached-at base price t e r =
       sym (priced-price t) ∙ ap (λ b. cond b (priced (t .value)) None) r ∙ ap (λ n. cond (order n (price .value)) (priced n) None) e
+
+-- a range of all prices, whatever the proofs of its facts
+pub whole-same : (a : least-price ≤ least-price) (b : least-price ≤ greatest-price) (c : least-price ≤ greatest-price) (d : greatest-price ≤ greatest-price) (o : least-price ≤ greatest-price)
+    → record { low = record { value = least-price; low = a; high = b }; high = record { value = greatest-price; low = c; high = d }; ordered = o } ≡ whole
+whole-same a b c d o =
+    λ i.
+    record {
+      low = record { value = least-price; low = le-prop a (whole .low .low) i; high = le-prop b (whole .low .high) i };
+      high = record { value = greatest-price; low = le-prop c (whole .high .low) i; high = le-prop d (whole .high .high) i };
+      ordered = le-prop o (whole .ordered) i;
+    }

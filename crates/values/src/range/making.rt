@@ -1,8 +1,7 @@
 // Apart from the struct, since a file whose clauses cite definitions over a checked struct cannot declare it.
 ghost use mathlib.Core.Path.{_≡_};
-ghost use Rattle.values.specs.Bounds.{least-price, greatest-price};
 ghost use Rattle.values.specs.Making.{seen};
-ghost use Rattle.values.specs.Ranges.{ends, ranged, inside};
+ghost use Rattle.values.specs.Ranges.{ends, ranged, inside, whole};
 use crate::fault::MakingFault;
 use crate::price::Price;
 use crate::range::PriceRange;
@@ -19,8 +18,7 @@ impl PriceRange {
 
     // All prices.
     pub fn whole() -> PriceRange
-        ensures low { λ r. ⌜ r .low .value ≡ least-price ⌝ }
-        ensures high { λ r. ⌜ r .high .value ≡ greatest-price ⌝ }
+        ensures { λ r. ⌜ r ≡ whole ⌝ }
     {
         let low = Price { value: Price::LEAST };
         let high = Price { value: Price::GREATEST };
