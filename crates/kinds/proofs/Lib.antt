@@ -4,5 +4,6 @@ pub mod Batching
 pub mod GridBases
 pub mod Gridding
 pub mod Holding
+pub mod Leasts
 pub mod Prompting
 pub mod Trailing

@@ -4,6 +4,7 @@ pub mod Cases
 pub mod Grids
 pub mod Holds
 pub mod Kinds
+pub mod LimitMarks
 pub mod Prompts
 pub mod Tests
 pub mod Trails

@@ -1,9 +1,10 @@
 -- Rebound buy and fall-back sell, over the prices of the ticks told.
 use mathlib.Core.Path.{_≡_}
 use mathlib.Core.Bool.{Bool, true, false, cond, not, _||_, _&&_}
-use mathlib.Core.List.{List, [], _∷_, _++_}
+use mathlib.Core.List.{List, [], _∷_, _++_, List·Memᴰ}
 use Prim.Native.Nat.{ℕ}
 use Rattle.std.specs.Options.{orOther}
+use Rattle.std.specs.shelf.Lists.{All}
 use Rattle.std.specs.declared.option.Option.{Option}
 use Rattle.std.specs.declared.option.Option.the-variants.{Some, None}
 use Rattle.values.specs.Directions.{rising-order, rising-target, falling-order, falling-target}
@@ -72,6 +73,14 @@ module _ (order : ℕ → ℕ → Bool) where
         fires-over (terms .side) (trigger (watched s (prices es)) (watched s (prices es ++ t .price ∷ [])) (t .price))
     trail-means s es (event.Day d) = answer.Wait
     trail-means s es (event.Settlement p) = answer.Wait
+
+-- one of some prices, with none of them below it: what the least of a watch is
+pub record Least-of (order : ℕ → ℕ → Bool) (low : Price) (ps : List Price) : Type 0 where
+  pub one-of : List·Memᴰ low ps
+  pub none-below : All (λ p. order (low .value) (p .value) ≡ true) ps
+
+abbrev pub Least-is-least : (ℕ → ℕ → Bool) → Type 0
+Least-is-least order = (x : Price) (ps : List Price) → Least-of order (least order x ps) (x ∷ ps)
 
 -- what the two kinds mean from their placing on
 abbrev pub rebound : Price → Step → TrailOptions → Meaning

@@ -4,5 +4,6 @@ pub mod book_kinds;
 pub mod grid;
 pub mod making;
 pub mod one_of;
+pub mod order_kind;
 pub mod test;
 pub mod trail;
