@@ -1,14 +1,13 @@
 -- Every pile of the three layers keeps the laws of a condition.
 use mathlib.Core.Path.{_≡_, refl}
 use mathlib.Core.Bool.{false}
-use Prim.Native.Nat.{ℕ}
 use Rattle.std.specs.Options.{valueOr}
 use Rattle.std.specs.declared.option.Option.{Option}
 use Rattle.std.specs.declared.option.Option.the-variants.{Some, None}
 use Rattle.values.specs.Ranges.{whole}
 use Rattle.values.specs.declared.range.PriceRange.{PriceRange}
 use Rattle.conditions.specs.Meaning.{Meaning, Repeats, Proper}
-use Rattle.conditions.specs.Piles.{Lawful, Piled, bare, under-until, under-range, under-either, Piles-lawful, last-or, span-or, switch-or}
+use Rattle.conditions.specs.Piles.{Lawful, Piled, bare, under-until, under-range, under-either, Piles-lawful, span-or, switch-or}
 use Rattle.conditions.specs.declared.layer.pile.Bounds.{Bounds}
 use Rattle.conditions.proofs.Layering.{until-repeats, until-proper, range-repeats, range-proper, either-repeats, either-proper}
 
@@ -27,10 +26,6 @@ lawful (under-either p q) =
 
 pub piles-lawful : Piles-lawful
 piles-lawful m p = lawful p
-
-pub last-is : (o : Option ℕ) → valueOr o 65535 ≡ last-or o
-last-is None = refl
-last-is (Some l) = refl
 
 pub span-is : (o : Option Bounds) (w : PriceRange) → w ≡ whole → valueOr o (record { range = w; switch = false }) .range ≡ span-or o
 span-is None w e = e

@@ -62,7 +62,11 @@ impl Fire {
         ensures { λ r. ⌜ r ≡ fires-over side trigger ⌝ }
     {
         match trigger {
-            Some(trigger) => Answer::Fires(Fire { side, trigger, next: Next::Over }),
+            Some(trigger) => Answer::Fires(Fire {
+                side,
+                trigger,
+                next: Next::Over,
+            }),
             None => Answer::Wait,
         }
     }

@@ -75,6 +75,6 @@ module _ (order : ℕ → ℕ → Bool) (d : AveragingDays) (day : Day) (price :
       → r ≡ priced ((sum-before d (day .sums) + price .value) / day-count d) → isSome r ≡ true → (r ≡ average-yes order d day price) × (isSome r ≡ at-average order d day price)
   yes-average hit some is found =
       let yes : at-average order d day price ≡ true =
-          ap (λ b. not b && order (sum-before d (day .sums)) ((day-count d - 1) * price .value)) (ne-eqb (sum-before d (day .sums)) 0 some) ∙ sym hit
+      ap (λ b. not b && order (sum-before d (day .sums)) ((day-count d - 1) * price .value)) (ne-eqb (sum-before d (day .sums)) 0 some) ∙ sym hit
       in
       (is ∙ ap (λ b. cond b (priced ((sum-before d (day .sums) + price .value) / day-count d)) None) (sym yes), found ∙ sym yes)

@@ -35,9 +35,10 @@ module _ (order : ℕ → ℕ → Bool) (target : Step → ℕ → ℕ) (side : 
   -- one tick as the code takes it
   pub turn : (base : Price) (v : Price) (e : Event) (t : Tick) (o : Option Price) → e ≡ event.Tick t → o ≡ reach base (t .price) → v ≡ base-by order target side step o base (t .price)
       → (fires-on side o ≡ M base [] e) × (M v ≡ after (M base) (e ∷ []))
-  turn base v e t o ee eo ev =
-      (ap (fires-on side) eo ∙ ap (M base []) (sym ee),
-       ap M (ev ∙ ap (λ p. base-by order target side step p base (t .price)) eo) ∙ ap (λ x. after (M base) (x ∷ [])) (sym ee))
+  turn base v e t o ee eo ev = (
+    ap (fires-on side) eo ∙ ap (M base []) (sym ee),
+    ap M (ev ∙ ap (λ p. base-by order target side step p base (t .price)) eo) ∙ ap (λ x. after (M base) (x ∷ [])) (sym ee),
+  )
 
   -- the law of the latest fire
   after-more : (h : List Event) (e : Event) (b : Price) → base-after order target side step b (h ++ e ∷ []) ≡ told (base-after order target side step b h) e

@@ -33,13 +33,14 @@ allowed-none mode.Fill = refl
 pub turn : (terms : GridTerms) (s v : GridStage) (e : Event) (base : Price) (t : Tick) (o : Option Fire)
     → s ≡ stage.Watching base → e ≡ event.Tick t → o ≡ fire terms base (t .price) → v ≡ stage-by terms base (t .price) o
     → (answer-by terms o ≡ grid-means terms s [] e) × (grid-means terms v ≡ after (grid-means terms s) (e ∷ []))
-turn terms s v e base t o es ee eo ev =
-    (ap (answer-by terms) eo ∙ ap (λ u. answer-at terms u (event.Tick t)) (sym es) ∙ ap (answer-at terms s) (sym ee),
-     ap (grid-means terms) (ev ∙ ap (stage-by terms base (t .price)) eo ∙ ap (λ u. stage-next terms u (event.Tick t)) (sym es) ∙ ap (stage-next terms s) (sym ee)))
+turn terms s v e base t o es ee eo ev = (
+  ap (answer-by terms) eo ∙ ap (λ u. answer-at terms u (event.Tick t)) (sym es) ∙ ap (answer-at terms s) (sym ee),
+  ap (grid-means terms) (ev ∙ ap (stage-by terms base (t .price)) eo ∙ ap (λ u. stage-next terms u (event.Tick t)) (sym es) ∙ ap (stage-next terms s) (sym ee)),
+)
 
 module _ (terms : GridTerms)
-  (down : (p : Price) → Beyond falling-order (p .value) (falling-target (terms .down) (p .value)))
-  (up : (p : Price) → Beyond rising-order (p .value) (rising-target (terms .up) (p .value))) where
+    (down : (p : Price) → Beyond falling-order (p .value) (falling-target (terms .down) (p .value)))
+    (up : (p : Price) → Beyond rising-order (p .value) (rising-target (terms .up) (p .value))) where
   abbrev M : GridStage → Meaning
   M = grid-means terms
 
@@ -95,6 +96,7 @@ grid-proper terms s =
     quiet-settlement : (v : GridStage) (p : Price) → answer-at terms v (event.Settlement p) ≡ answer.Wait
     quiet-settlement (stage.Watching base) p = refl
     quiet-settlement stage.Awaiting p = refl
+
     quiet-day : (v : GridStage) (d : _) → fires (answer-at terms v (event.Day d)) ≡ false
     quiet-day (stage.Watching base) d = refl
     quiet-day stage.Awaiting d = refl

@@ -130,9 +130,10 @@ module _ (test : Day → Price → Option Price) (hold : ℕ) (side : Side) wher
   pub turn : (day : Option Day) (since : Option ℕ) (e : Event) (d : Day) (t : Tick) (o : Option Price) (n : Option ℕ) (b : Bool)
       → day ≡ Some d → e ≡ event.Tick t → o ≡ test d (t .price) → b ≡ long-enough hold since (t .moment) → n ≡ since-next since (t .moment) (isSome o)
       → (cond b (fires-over side o) answer.Wait ≡ M (day, since) [] e) × (M (day, n) ≡ after (M (day, since)) (e ∷ []))
-  turn day since e d t o n b ed ee eo eb en =
-      ((λ i. cond (eb i) (fires-over side (eo i)) answer.Wait) ∙ sym (fires-cond (long-enough hold since (t .moment)) (test d (t .price))) ∙ sym (now-held d since t) ∙ (λ i. M (sym ed i, since) [] (sym ee i)),
-       (λ i. M (ed i, (en ∙ ap (λ p. since-next since (t .moment) (isSome p)) eo) i)) ∙ steps (Some d, since) (event.Tick t) ∙ (λ i. after (M (sym ed i, since)) (sym ee i ∷ [])))
+  turn day since e d t o n b ed ee eo eb en = (
+    (λ i. cond (eb i) (fires-over side (eo i)) answer.Wait) ∙ sym (fires-cond (long-enough hold since (t .moment)) (test d (t .price))) ∙ sym (now-held d since t) ∙ (λ i. M (sym ed i, since) [] (sym ee i)),
+    (λ i. M (ed i, (en ∙ ap (λ p. since-next since (t .moment) (isSome p)) eo) i)) ∙ steps (Some d, since) (event.Tick t) ∙ (λ i. after (M (sym ed i, since)) (sym ee i ∷ [])),
+  )
 
   -- a tick before any day
   pub turn-early : (day : Option Day) (since : Option ℕ) (e : Event) (t : Tick) → day ≡ None → e ≡ event.Tick t → (answer.Wait ≡ M (day, since) [] e) × (M (day, since) ≡ after (M (day, since)) (e ∷ []))

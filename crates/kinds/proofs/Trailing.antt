@@ -95,9 +95,10 @@ module _ (order : ℕ → ℕ → Bool) (target : Step → ℕ → ℕ) (total :
   pub turn : (s : TrailState) (e : Event) (x low : Price) (t : Tick) (a : Answer) → s ≡ state.Tracking x → e ≡ event.Tick t → low ≡ nearer x (t .price)
       → a ≡ fires-over (terms .side) (orOther (by-target order target terms low (t .price)) (by-floor order terms x (t .price)))
       → (a ≡ M s [] e) × (M (state.Tracking low) ≡ after (M s) (e ∷ []))
-  turn s e x low t a es ee el ea =
-      (ea ∙ ap (λ l. fires-over (terms .side) (orOther (by-target order target terms l (t .price)) (by-floor order terms x (t .price)))) el ∙ answers x t ∙ ap (λ v. M v [] (event.Tick t)) (sym es) ∙ ap (M s []) (sym ee),
-       ap (λ l. M (state.Tracking l)) el ∙ steps (state.Tracking x) (event.Tick t) ∙ ap (λ v. after (M v) (event.Tick t ∷ [])) (sym es) ∙ ap (λ v. after (M s) (v ∷ [])) (sym ee))
+  turn s e x low t a es ee el ea = (
+    ea ∙ ap (λ l. fires-over (terms .side) (orOther (by-target order target terms l (t .price)) (by-floor order terms x (t .price)))) el ∙ answers x t ∙ ap (λ v. M v [] (event.Tick t)) (sym es) ∙ ap (M s []) (sym ee),
+    ap (λ l. M (state.Tracking l)) el ∙ steps (state.Tracking x) (event.Tick t) ∙ ap (λ v. after (M v) (event.Tick t ∷ [])) (sym es) ∙ ap (λ v. after (M s) (v ∷ [])) (sym ee),
+  )
 
   module _ (beyond : (p : Price) → Beyond order (p .value) (target (terms .step) (p .value))) where
     same-price : (b : Bool) (p : Price) → cond b p p ≡ p

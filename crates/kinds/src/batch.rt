@@ -10,20 +10,14 @@ use conditions::event::Event;
 use conditions::event::Fire;
 use conditions::event::Next;
 use conditions::event::Side;
-use conditions::event::SideDebug;
-use conditions::event::SidePartialEq;
 use values::direction::Direction;
 use values::direction::Falling;
 use values::direction::Rising;
 use values::price::Price;
-use values::price::PriceDebug;
-use values::price::PricePartialEq;
 use values::step::Step;
-use values::step::StepDebug;
-use values::step::StepPartialEq;
 
 // Fires at the target of its base in the direction D, and takes the price that reached it as the next base.
-#[derive(Clone, Copy, PartialEq, Eq, Debug)]
+#[derive(Clone, Copy)]
 pub struct Batch<D> {
     direction: D,
     side: Side,
@@ -36,7 +30,12 @@ impl Batch<Falling> {
         ensures means { λ r. ⌜ batch-means falling-order falling-target (r .side) (r .step) (r .base) ≡ buy-batch base step ⌝ }
         ensures latest { λ _. ⌜ From-latest-fire (buy-batch base step) base (batch-answer falling-order falling-target side.Buy step) ⌝ }
     {
-        Batch { direction: Falling, side: Side::Buy, step, base }
+        Batch {
+            direction: Falling,
+            side: Side::Buy,
+            step,
+            base,
+        }
     }
 }
 
@@ -45,7 +44,12 @@ impl Batch<Rising> {
         ensures means { λ r. ⌜ batch-means rising-order rising-target (r .side) (r .step) (r .base) ≡ sell-batch base step ⌝ }
         ensures latest { λ _. ⌜ From-latest-fire (sell-batch base step) base (batch-answer rising-order rising-target side.Sell step) ⌝ }
     {
-        Batch { direction: Rising, side: Side::Sell, step, base }
+        Batch {
+            direction: Rising,
+            side: Side::Sell,
+            step,
+            base,
+        }
     }
 }
 
@@ -57,7 +61,11 @@ pub impl<D: Direction> Condition for Batch<D> as BatchCondition {
             Event::Tick(t) => match D::reached(self.step, self.base, t.price) {
                 Some(trigger) => {
                     self.base = t.price;
-                    Answer::Fires(Fire { side: self.side, trigger, next: Next::GoesOn })
+                    Answer::Fires(Fire {
+                        side: self.side,
+                        trigger,
+                        next: Next::GoesOn,
+                    })
                 }
                 None => Answer::Wait,
             },

@@ -32,10 +32,13 @@ pub type EitherAverage = OneOf<Held<Average<Rising>>, Held<Average<Falling>>>;
 pub type EitherTrail = OneOf<Trail<Rising>, Trail<Falling>>;
 
 // A stop, and a profit that is a level or falls back from its top.
-pub type StopOrProfit = Either<Prompt<Level<Falling>>, OneOf<Prompt<Level<Rising>>, Trail<Falling>>>;
+pub type StopOrProfit = Either<
+    Prompt<Level<Falling>>,
+    OneOf<Prompt<Level<Rising>>, Trail<Falling>>,
+>;
 
 // The kinds that fire once.
-#[derive(Clone, Copy, PartialEq, Eq, Debug)]
+#[derive(Clone, Copy)]
 pub enum SingleShot<P = LevelOrMove, V = EitherAverage, T = EitherTrail, S = StopOrProfit> {
     LevelOrMove(P),
     Average(V),
@@ -43,7 +46,12 @@ pub enum SingleShot<P = LevelOrMove, V = EitherAverage, T = EitherTrail, S = Sto
     StopOrProfit(S),
 }
 
-pub impl<P: Condition, V: Condition, T: Condition, S: Condition> Condition for SingleShot<P, V, T, S> as SingleShotCondition {
+pub impl<P: Condition, V: Condition, T: Condition, S: Condition> Condition for SingleShot<
+    P,
+    V,
+    T,
+    S,
+> as SingleShotCondition {
     ghost meaning = { λ s. single-means (P·Condition .meaning) (V·Condition .meaning) (T·Condition .meaning) (S·Condition .meaning) s };
 
     fn tell(&mut self, event: Event) -> Answer {
@@ -59,7 +67,7 @@ pub impl<P: Condition, V: Condition, T: Condition, S: Condition> Condition for S
 pub type EitherBatch = OneOf<Batch<Falling>, Batch<Rising>>;
 
 // The kinds that fire again and again.
-#[derive(Clone, Copy, PartialEq, Eq, Debug)]
+#[derive(Clone, Copy)]
 pub enum Repeating<B = EitherBatch, G = Range<Grid>> {
     Batch(B),
     Grid(G),

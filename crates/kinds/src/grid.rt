@@ -14,17 +14,11 @@ use values::direction::FallingDirection;
 use values::direction::Rising;
 use values::direction::RisingDirection;
 use values::price::Price;
-use values::price::PriceDebug;
-use values::price::PricePartialEq;
 use values::range::PriceRange;
-use values::range::PriceRangeDebug;
-use values::range::PriceRangePartialEq;
 use values::step::Step;
-use values::step::StepDebug;
-use values::step::StepPartialEq;
 
 // Where a grid takes its next base from.
-#[derive(Clone, Copy, PartialEq, Eq, Debug)]
+#[derive(Clone, Copy)]
 pub enum GridMode {
     // the tick that fired; only a target inside the range fires
     Market(PriceRange),
@@ -33,7 +27,7 @@ pub enum GridMode {
 }
 
 // What a grid was made with.
-#[derive(Clone, Copy, PartialEq, Eq, Debug)]
+#[derive(Clone, Copy)]
 pub struct GridTerms {
     pub mode: GridMode,
     // the step to the target at which it buys
@@ -42,13 +36,13 @@ pub struct GridTerms {
     pub up: Step,
 }
 
-#[derive(Clone, Copy, PartialEq, Eq, Debug)]
+#[derive(Clone, Copy)]
 pub enum GridStage {
     Watching { base: Price },
     Awaiting,
 }
 
-#[derive(Clone, Copy, PartialEq, Eq, Debug)]
+#[derive(Clone, Copy)]
 pub struct Grid {
     terms: GridTerms,
     stage: GridStage,
@@ -60,8 +54,15 @@ impl Grid {
         ensures means { λ r. ⌜ grid-means (r .terms) (r .stage) ≡ market-grid range base down up ⌝ }
         ensures latest { λ _. ⌜ From-latest-fire (market-grid range base down up) base (grid-answer (market-terms range down up)) ⌝ }
     {
-        let terms = GridTerms { mode: GridMode::Market(range), down, up };
-        Grid { terms, stage: GridStage::Watching { base } }
+        let terms = GridTerms {
+            mode: GridMode::Market(range),
+            down,
+            up,
+        };
+        Grid {
+            terms,
+            stage: GridStage::Watching { base },
+        }
     }
 
     // A grid whose next base is the price at which its slip was settled.
@@ -69,8 +70,15 @@ impl Grid {
         ensures means { λ r. ⌜ grid-means (r .terms) (r .stage) ≡ fill-grid base down up ⌝ }
         ensures latest { λ _. ⌜ From-latest-fill (fill-grid base down up) base (grid-answer (fill-terms down up)) ⌝ }
     {
-        let terms = GridTerms { mode: GridMode::Fill, down, up };
-        Grid { terms, stage: GridStage::Watching { base } }
+        let terms = GridTerms {
+            mode: GridMode::Fill,
+            down,
+            up,
+        };
+        Grid {
+            terms,
+            stage: GridStage::Watching { base },
+        }
     }
 
     // A target that has been reached, if the mode lets it fire.
@@ -92,10 +100,18 @@ impl Grid {
     {
         let next = self.next_after_fire();
         if let Some(trigger) = self.admit(Falling::reached(self.terms.down, base, price)) {
-            return Some(Fire { side: Side::Buy, trigger, next });
+            return Some(Fire {
+                side: Side::Buy,
+                trigger,
+                next,
+            });
         }
         if let Some(trigger) = self.admit(Rising::reached(self.terms.up, base, price)) {
-            return Some(Fire { side: Side::Sell, trigger, next });
+            return Some(Fire {
+                side: Side::Sell,
+                trigger,
+                next,
+            });
         }
         None
     }
@@ -137,7 +153,9 @@ pub impl Condition for Grid as GridCondition {
                 self.stage = GridStage::Watching { base: price };
                 Answer::Wait
             }
-            (_, Event::Day(_)) | (GridStage::Awaiting, Event::Tick(_)) | (GridStage::Watching { .. }, Event::Settlement(_)) => Answer::Wait,
+            (_, Event::Day(_))
+            | (GridStage::Awaiting, Event::Tick(_))
+            | (GridStage::Watching { .. }, Event::Settlement(_)) => Answer::Wait,
         }
     }
 }

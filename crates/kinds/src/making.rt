@@ -48,14 +48,23 @@ pub fn level<D: Direction>(direction: D, price: Price, side: Side) -> Prompt<Lev
 }
 
 // A price that has moved some way in the day.
-pub fn move_of_day<D: Direction>(direction: D, distance: Distance, side: Side) -> Prompt<MoveOfDay<D>>
+pub fn move_of_day<D: Direction>(
+    direction: D,
+    distance: Distance,
+    side: Side,
+) -> Prompt<MoveOfDay<D>>
     ensures { λ r. ⌜ prompt-means (move-yes (D·Direction .order) (D·Direction .target) (D·Direction .furthest) (r .test .distance)) (r .side) (r .day) ≡ move-kind (D·Direction .order) (D·Direction .target) (D·Direction .furthest) distance side ⌝ }
 {
     Prompt::new(MoveOfDay::new(direction, distance), side)
 }
 
 // A price that has stayed at an average or beyond it.
-pub fn average<D: Direction>(direction: D, days: AveragingDays, hold: Hold, side: Side) -> Held<Average<D>>
+pub fn average<D: Direction>(
+    direction: D,
+    days: AveragingDays,
+    hold: Hold,
+    side: Side,
+) -> Held<Average<D>>
     ensures { λ r. ⌜ held-means (average-yes (D·Direction .order) (r .test .days)) (r .hold .seconds) (r .side) (r .day) (r .since) ≡ average-kind (D·Direction .order) days hold side ⌝ }
 {
     Held::new(Average::new(direction, days), side, hold)
@@ -67,12 +76,24 @@ fn profit_at(target: Price, trail: Option<Step>) -> OneOf<Prompt<Level<Rising>>,
 {
     match trail {
         None => OneOf::First(level(Rising, target, Side::Sell)),
-        Some(step) => OneOf::Second(Trail::fall_back_sell(target, step, TrailOptions { floor: false, stay: true })),
+        Some(step) => OneOf::Second(Trail::fall_back_sell(
+            target,
+            step,
+            TrailOptions {
+                floor: false,
+                stay: true,
+            },
+        )),
     }
 }
 
 // Sells at the falling target of a base, or at its rising target; with a trail, at the fall back from a top beyond that.
-pub fn stop_or_profit(base: Price, stop: Step, profit: Step, trail: Option<Step>) -> Result<StopOrProfit, MakingFault>
+pub fn stop_or_profit(
+    base: Price,
+    stop: Step,
+    profit: Step,
+    trail: Option<Step>,
+) -> Result<StopOrProfit, MakingFault>
     ensures { λ r. ⌜ seen exit-means r ≡ stop-or-profit base stop profit trail ⌝ }
 {
     let Ok(low) = Price::new(Falling::target_of(stop, base)) else {

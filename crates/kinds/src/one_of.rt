@@ -4,7 +4,7 @@ use conditions::condition::Condition;
 use conditions::event::Answer;
 use conditions::event::Event;
 
-#[derive(Clone, Copy, PartialEq, Eq, Debug)]
+#[derive(Clone, Copy)]
 pub enum OneOf<P, Q> {
     First(P),
     Second(Q),

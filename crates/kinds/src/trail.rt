@@ -11,19 +11,13 @@ use conditions::event::Answer;
 use conditions::event::Event;
 use conditions::event::Fire;
 use conditions::event::Side;
-use conditions::event::SideDebug;
-use conditions::event::SidePartialEq;
 use values::direction::Direction;
 use values::direction::Falling;
 use values::direction::Rising;
 use values::price::Price;
-use values::price::PriceDebug;
-use values::price::PricePartialEq;
 use values::step::Step;
-use values::step::StepDebug;
-use values::step::StepPartialEq;
 
-#[derive(Clone, Copy, PartialEq, Eq, Debug)]
+#[derive(Clone, Copy)]
 pub struct TrailOptions {
     // once a price lay strictly past the mark, a return to the mark fires too
     pub floor: bool,
@@ -32,7 +26,7 @@ pub struct TrailOptions {
 }
 
 // What a trail was made with.
-#[derive(Clone, Copy, PartialEq, Eq, Debug)]
+#[derive(Clone, Copy)]
 pub struct TrailTerms {
     pub side: Side,
     pub mark: Price,
@@ -40,7 +34,7 @@ pub struct TrailTerms {
     pub options: TrailOptions,
 }
 
-#[derive(Clone, Copy, PartialEq, Eq, Debug)]
+#[derive(Clone, Copy)]
 pub enum TrailState {
     // no price has come to the mark yet
     Idle,
@@ -49,7 +43,7 @@ pub enum TrailState {
 }
 
 // Fires when the price turns in the direction D, by a step from its extreme, after it came to a mark.
-#[derive(Clone, Copy, PartialEq, Eq, Debug)]
+#[derive(Clone, Copy)]
 pub struct Trail<D> {
     direction: D,
     terms: TrailTerms,
@@ -62,8 +56,17 @@ impl Trail<Rising> {
         ensures means { λ r. ⌜ trail-means rising-order rising-target (r .terms) (r .state) ≡ rebound mark step options ⌝ }
         ensures least { λ _. ⌜ Least-is-least rising-order ⌝ }
     {
-        let terms = TrailTerms { side: Side::Buy, mark, step, options };
-        Trail { direction: Rising, terms, state: TrailState::Idle }
+        let terms = TrailTerms {
+            side: Side::Buy,
+            mark,
+            step,
+            options,
+        };
+        Trail {
+            direction: Rising,
+            terms,
+            state: TrailState::Idle,
+        }
     }
 }
 
@@ -73,8 +76,17 @@ impl Trail<Falling> {
         ensures means { λ r. ⌜ trail-means falling-order falling-target (r .terms) (r .state) ≡ fall-back mark step options ⌝ }
         ensures least { λ _. ⌜ Least-is-least falling-order ⌝ }
     {
-        let terms = TrailTerms { side: Side::Sell, mark, step, options };
-        Trail { direction: Falling, terms, state: TrailState::Idle }
+        let terms = TrailTerms {
+            side: Side::Sell,
+            mark,
+            step,
+            options,
+        };
+        Trail {
+            direction: Falling,
+            terms,
+            state: TrailState::Idle,
+        }
     }
 }
 
@@ -94,7 +106,11 @@ impl<D: Direction> Trail<D> {
     fn further(&self, extreme: Price, price: Price) -> Price
         ensures { λ r. ⌜ r ≡ cond (D·Direction .order (price .value) (extreme .value)) price extreme ⌝ }
     {
-        if D::passes(extreme, price) { price } else { extreme }
+        if D::passes(extreme, price) {
+            price
+        } else {
+            extreme
+        }
     }
 
     // The trigger price, where a price has reached the target of the extreme.
@@ -122,7 +138,11 @@ impl<D: Direction> Trail<D> {
     fn judge(&self, before: Price, extreme: Price, price: Price) -> Answer
         ensures { λ r. ⌜ r ≡ fires-over (now (self .entry) .terms .side) (orOther (by-target (D·Direction .order) (D·Direction .target) (now (self .entry) .terms) extreme price) (by-floor (D·Direction .order) (now (self .entry) .terms) before price)) ⌝ }
     {
-        Fire::over_at(self.terms.side, self.at_target(extreme, price).or(self.at_floor(before, price)))
+        Fire::over_at(
+            self.terms.side,
+            self.at_target(extreme, price)
+                .or(self.at_floor(before, price)),
+        )
     }
 }
 

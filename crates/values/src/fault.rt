@@ -42,15 +42,18 @@ impl MakingFault {
 
 pub impl fmt::Display for MakingFault as MakingFaultDisplay {
     fn fmt<W: fmt::Write>(&self, f: &mut fmt::Formatter<W>) -> fmt::Result {
-        f.write_str(match self {
-            MakingFault::Price => "making: price outside 0.1000 to 99999.9999 yuan",
-            MakingFault::StopTarget => "making: target of the stop outside the prices",
-            MakingFault::ProfitTarget => "making: target of the profit outside the prices",
-            MakingFault::Step => "making: step outside 0.10% to 50.00% or 0.0001 to 99999.9999 yuan",
-            MakingFault::Range => "making: range with its low above its high",
-            MakingFault::Hold => "making: hold outside 1 to 14400 seconds",
-            MakingFault::Days => "making: average over days other than 5 10 20 30 or 60",
-            MakingFault::Limit => "making: limit above 100.00%",
-        })
+        f.write_str(
+            match self {
+                MakingFault::Price => "making: price outside 0.1000 to 99999.9999 yuan",
+                MakingFault::StopTarget => "making: target of the stop outside the prices",
+                MakingFault::ProfitTarget => "making: target of the profit outside the prices",
+                MakingFault::Step =>
+                    "making: step outside 0.10% to 50.00% or 0.0001 to 99999.9999 yuan",
+                MakingFault::Range => "making: range with its low above its high",
+                MakingFault::Hold => "making: hold outside 1 to 14400 seconds",
+                MakingFault::Days => "making: average over days other than 5 10 20 30 or 60",
+                MakingFault::Limit => "making: limit above 100.00%",
+            },
+        )
     }
 }

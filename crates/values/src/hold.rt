@@ -15,6 +15,7 @@ pub struct Hold {
 
 impl Hold {
     pub const LEAST: u32 = 1;
+
     pub const GREATEST: u32 = 14_400;
 
     pub fn new(seconds: u32) -> Result<Hold, MakingFault>

@@ -17,6 +17,7 @@ pub struct Price {
 
 impl Price {
     pub const LEAST: u32 = 1_000;
+
     pub const GREATEST: u32 = 999_999_999;
 
     pub fn new(value: u32) -> Result<Price, MakingFault>

@@ -15,6 +15,7 @@ pub struct Percentage {
 
 impl Percentage {
     pub const LEAST: u32 = 10;
+
     pub const GREATEST: u32 = 5_000;
 
     pub fn new(value: u32) -> Result<Percentage, MakingFault>
@@ -43,6 +44,7 @@ pub struct Difference {
 
 impl Difference {
     pub const LEAST: u32 = 1;
+
     pub const GREATEST: u32 = 999_999_999;
 
     pub fn new(value: u32) -> Result<Difference, MakingFault>

@@ -7,7 +7,7 @@ use crate::event::Fire;
 use crate::event::Next;
 
 // Two conditions that are told everything; the first one's fire goes before the second one's.
-#[derive(Clone, Copy, PartialEq, Eq, Debug)]
+#[derive(Clone, Copy)]
 pub struct Either<P, Q> {
     first: P,
     second: Q,
@@ -41,9 +41,17 @@ fn combine(first: Answer, second: Answer) -> Answer
     ensures { λ r. ⌜ r ≡ both first second ⌝ }
 {
     match first {
-        Answer::Fires(f) => Answer::Fires(Fire { side: f.side, trigger: f.trigger, next: join(f.next, second) }),
+        Answer::Fires(f) => Answer::Fires(Fire {
+            side: f.side,
+            trigger: f.trigger,
+            next: join(f.next, second),
+        }),
         Answer::Lapses => match second {
-            Answer::Fires(f) => Answer::Fires(Fire { side: f.side, trigger: f.trigger, next: join(f.next, first) }),
+            Answer::Fires(f) => Answer::Fires(Fire {
+                side: f.side,
+                trigger: f.trigger,
+                next: join(f.next, first),
+            }),
             Answer::Lapses | Answer::Wait => Answer::Lapses,
         },
         Answer::Wait => second,

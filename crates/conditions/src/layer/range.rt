@@ -6,11 +6,9 @@ use crate::event::Event;
 use crate::event::Fire;
 use crate::event::Next;
 use values::range::PriceRange;
-use values::range::PriceRangeDebug;
-use values::range::PriceRangePartialEq;
 
 // Ends with the first tick outside a range.
-#[derive(Clone, Copy, PartialEq, Eq, Debug)]
+#[derive(Clone, Copy)]
 pub struct Range<C> {
     range: PriceRange,
     // on: a fire outside still passes, as the last one
@@ -22,7 +20,11 @@ impl<C: Condition> Range<C> {
     pub fn new(range: PriceRange, switch: bool, below: C) -> Range<C>
         ensures { λ r. ⌜ in-range (r .range) (r .switch) (C·Condition .meaning (r .below)) ≡ in-range range switch (C·Condition .meaning below) ⌝ }
     {
-        Range { range, switch, below }
+        Range {
+            range,
+            switch,
+            below,
+        }
     }
 }
 
@@ -41,7 +43,11 @@ fn leave(switch: bool, answer: Answer) -> Answer
     ensures { λ r. ⌜ r ≡ leaving switch answer ⌝ }
 {
     match answer {
-        Answer::Fires(f) if switch => Answer::Fires(Fire { side: f.side, trigger: f.trigger, next: Next::Over }),
+        Answer::Fires(f) if switch => Answer::Fires(Fire {
+            side: f.side,
+            trigger: f.trigger,
+            next: Next::Over,
+        }),
         _ => Answer::Lapses,
     }
 }
@@ -51,6 +57,10 @@ pub impl<C: Condition> Condition for Range<C> as RangeCondition {
 
     fn tell(&mut self, event: Event) -> Answer {
         let answer = self.below.tell(event);
-        if is_outside(self.range, event) { leave(self.switch, answer) } else { answer }
+        if is_outside(self.range, event) {
+            leave(self.switch, answer)
+        } else {
+            answer
+        }
     }
 }

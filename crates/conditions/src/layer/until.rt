@@ -5,7 +5,7 @@ use crate::event::Answer;
 use crate::event::Event;
 
 // Lapses on a day after its last.
-#[derive(Clone, Copy, PartialEq, Eq, Debug)]
+#[derive(Clone, Copy)]
 pub struct Until<C> {
     last: u16,
     below: C,

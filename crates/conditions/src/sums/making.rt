@@ -47,7 +47,13 @@ impl Sums {
         let nineteen = newest(closes, 19);
         let twentynine = newest(closes, 29);
         let fiftynine = newest(closes, 59);
-        Sums { four, nine, nineteen, twentynine, fiftynine }
+        Sums {
+            four,
+            nine,
+            nineteen,
+            twentynine,
+            fiftynine,
+        }
     }
 
     // The sum of the closes that an average over some days takes beside the price of the day.

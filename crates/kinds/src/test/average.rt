@@ -8,16 +8,14 @@ ghost use Rattle.values.specs.Days.{day-count};
 ghost use Rattle.values.specs.Prices.{priced};
 ghost use Rattle.conditions.specs.Sums.{sums};
 ghost use Rattle.kinds.specs.Tests.{average-yes, at-average};
-use conditions::event::Day;
 use crate::test::Test;
+use conditions::event::Day;
 use values::days::AveragingDays;
-use values::days::AveragingDaysDebug;
-use values::days::AveragingDaysPartialEq;
 use values::direction::Direction;
 use values::price::Price;
 
 // Yes where the price lies at the average or beyond it in the direction D.
-#[derive(Clone, Copy, PartialEq, Eq, Debug)]
+#[derive(Clone, Copy)]
 pub struct Average<D> {
     direction: D,
     days: AveragingDays,

@@ -2,22 +2,16 @@
 ghost use mathlib.Core.Path.{_≡_};
 ghost use Rattle.std.specs.declared.option.Option.the-variants.{None};
 ghost use Rattle.kinds.specs.Holds.{held-means, since-next, long-enough, earliest};
+use crate::test::Test;
 use conditions::condition::Condition;
 use conditions::event::Answer;
 use conditions::event::Day;
-use conditions::event::DayDebug;
-use conditions::event::DayPartialEq;
 use conditions::event::Event;
 use conditions::event::Fire;
 use conditions::event::Side;
-use conditions::event::SideDebug;
-use conditions::event::SidePartialEq;
-use crate::test::Test;
 use values::hold::Hold;
-use values::hold::HoldDebug;
-use values::hold::HoldPartialEq;
 
-#[derive(Clone, Copy, PartialEq, Eq, Debug)]
+#[derive(Clone, Copy)]
 pub struct Held<T> {
     test: T,
     side: Side,
@@ -32,7 +26,13 @@ impl<T: Test> Held<T> {
     pub fn new(test: T, side: Side, hold: Hold) -> Held<T>
         ensures { λ r. ⌜ held-means (T·Test .trigger (r .test)) (r .hold .seconds) (r .side) (r .day) (r .since) ≡ held-means (T·Test .trigger test) (hold .seconds) side None None ⌝ }
     {
-        Held { test, side, hold, day: None, since: None }
+        Held {
+            test,
+            side,
+            hold,
+            day: None,
+            since: None,
+        }
     }
 }
 
@@ -50,7 +50,11 @@ fn earliest(since: Option<u32>, moment: u32) -> u32
 fn since_next(since: Option<u32>, moment: u32, passed: bool) -> Option<u32>
     ensures { λ r. ⌜ r ≡ since-next since moment passed ⌝ }
 {
-    if passed { Some(earliest(since, moment)) } else { None }
+    if passed {
+        Some(earliest(since, moment))
+    } else {
+        None
+    }
 }
 
 // Whether a run of yes ticks began long enough before a moment.
@@ -73,7 +77,11 @@ pub impl<T: Test> Condition for Held<T> as HeldCondition {
                     let trigger = self.test.judge(day, t.price);
                     let long = long_enough(self.hold, self.since, t.moment);
                     self.since = since_next(self.since, t.moment, trigger.is_some());
-                    if long { Fire::over_at(self.side, trigger) } else { Answer::Wait }
+                    if long {
+                        Fire::over_at(self.side, trigger)
+                    } else {
+                        Answer::Wait
+                    }
                 }
                 None => Answer::Wait,
             },

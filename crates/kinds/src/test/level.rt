@@ -1,15 +1,13 @@
 // The test of a fixed price.
 ghost use mathlib.Core.Path.{_≡_};
 ghost use Rattle.kinds.specs.Tests.{level-yes};
-use conditions::event::Day;
 use crate::test::Test;
+use conditions::event::Day;
 use values::direction::Direction;
 use values::price::Price;
-use values::price::PriceDebug;
-use values::price::PricePartialEq;
 
 // Yes where the price lies at the level or beyond it in the direction D.
-#[derive(Clone, Copy, PartialEq, Eq, Debug)]
+#[derive(Clone, Copy)]
 pub struct Level<D> {
     direction: D,
     price: Price,
@@ -27,6 +25,10 @@ pub impl<D: Direction> Test for Level<D> as LevelTest {
     ghost trigger = { λ l _ p. level-yes (D·Direction .order) (l .price) p };
 
     fn judge(&self, _day: &Day, price: Price) -> Option<Price> {
-        if D::passes(price, self.price) { Some(self.price) } else { None }
+        if D::passes(price, self.price) {
+            Some(self.price)
+        } else {
+            None
+        }
     }
 }

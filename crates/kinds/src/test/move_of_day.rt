@@ -1,17 +1,15 @@
 // The test of how far a price has moved in the day.
 ghost use mathlib.Core.Path.{_≡_};
 ghost use Rattle.kinds.specs.Tests.{move-yes};
-use conditions::event::Day;
 use crate::test::Test;
+use conditions::event::Day;
 use values::direction::Direction;
 use values::price::Price;
 use values::step::Percentage;
-use values::step::PercentageDebug;
-use values::step::PercentagePartialEq;
 use values::step::Step;
 
 // How far a day's price has to go.
-#[derive(Clone, Copy, PartialEq, Eq, Debug)]
+#[derive(Clone, Copy)]
 pub enum Distance {
     // a percentage from the previous close
     Percent(Percentage),
@@ -20,7 +18,7 @@ pub enum Distance {
 }
 
 // Yes where the price has gone that far in the direction D.
-#[derive(Clone, Copy, PartialEq, Eq, Debug)]
+#[derive(Clone, Copy)]
 pub struct MoveOfDay<D> {
     direction: D,
     distance: Distance,
@@ -30,7 +28,10 @@ impl<D> MoveOfDay<D> {
     pub fn new(direction: D, distance: Distance) -> MoveOfDay<D>
         ensures { λ r. ⌜ r .distance ≡ distance ⌝ }
     {
-        MoveOfDay { direction, distance }
+        MoveOfDay {
+            direction,
+            distance,
+        }
     }
 }
 
@@ -42,7 +43,11 @@ pub impl<D: Direction> Test for MoveOfDay<D> as MoveOfDayTest {
             Distance::Percent(r) => D::reached(Step::Percent(r), day.close, price),
             Distance::Limit => {
                 let limit = D::end_of(day.lower, day.upper);
-                if D::passes(price, limit) { Some(limit) } else { None }
+                if D::passes(price, limit) {
+                    Some(limit)
+                } else {
+                    None
+                }
             }
         }
     }

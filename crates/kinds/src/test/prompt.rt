@@ -3,19 +3,15 @@ ghost use mathlib.Core.Path.{_≡_};
 ghost use Rattle.std.specs.declared.option.Option.the-variants.{None};
 ghost use Rattle.kinds.specs.Prompts.{prompt-means};
 ghost use Rattle.conditions.specs.Meaning.{fires-over};
+use crate::test::Test;
 use conditions::condition::Condition;
 use conditions::event::Answer;
 use conditions::event::Day;
-use conditions::event::DayDebug;
-use conditions::event::DayPartialEq;
 use conditions::event::Event;
 use conditions::event::Fire;
 use conditions::event::Side;
-use conditions::event::SideDebug;
-use conditions::event::SidePartialEq;
-use crate::test::Test;
 
-#[derive(Clone, Copy, PartialEq, Eq, Debug)]
+#[derive(Clone, Copy)]
 pub struct Prompt<T> {
     test: T,
     side: Side,
@@ -27,7 +23,11 @@ impl<T: Test> Prompt<T> {
     pub fn new(test: T, side: Side) -> Prompt<T>
         ensures { λ r. ⌜ prompt-means (T·Test .trigger (r .test)) (r .side) (r .day) ≡ prompt-means (T·Test .trigger test) side None ⌝ }
     {
-        Prompt { test, side, day: None }
+        Prompt {
+            test,
+            side,
+            day: None,
+        }
     }
 }
 

@@ -20,8 +20,12 @@ impl PriceRange {
     pub fn whole() -> PriceRange
         ensures { λ r. ⌜ r ≡ whole ⌝ }
     {
-        let low = Price { value: Price::LEAST };
-        let high = Price { value: Price::GREATEST };
+        let low = Price {
+            value: Price::LEAST,
+        };
+        let high = Price {
+            value: Price::GREATEST,
+        };
         PriceRange { low, high }
     }
 

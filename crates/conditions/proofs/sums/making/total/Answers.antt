@@ -10,10 +10,11 @@ use Rattle.conditions.proofs.sums.making.total.Needs as need
 pub loop-close-again : need.loop-close-again
 loop-close-again c =
     let close = c .close-item .result in
-    let inv = c .loop-close .inv in
-    (ap (λ n. c .loop-close .sum + n) (c .value .ensures) ∙ sum-more (c .args .closes .now) (c .loop-close .close-index) (c .loop-close .sum) close (c .loop-close-test .taken) (c .close-item .is) (inv .0),
-     omega (arith, inv .1, inv .2, c .value .ensures, close .low, close .high),
-     omega (arith, inv .1, inv .2, c .value .ensures, close .low, close .high))
+    let inv = c .loop-close .inv in (
+      ap (λ n. c .loop-close .sum + n) (c .value .ensures) ∙ sum-more (c .args .closes .now) (c .loop-close .close-index) (c .loop-close .sum) close (c .loop-close-test .taken) (c .close-item .is) (inv .0),
+      omega (arith, inv .1, inv .2, c .value .ensures, close .low, close .high),
+      omega (arith, inv .1, inv .2, c .value .ensures, close .low, close .high),
+    )
 
 pub returns : need.returns
 returns c =

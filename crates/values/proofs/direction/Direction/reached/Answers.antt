@@ -10,7 +10,7 @@ ghost-result g c =
     let order = g .Self·Direction .order in
     let goal = c .target-of-goal .result in
     let past : order (base .value) goal ≡ true =
-        ap (order (base .value)) (c .target-of-goal .ensures) ∙ g .Self·Direction·met .beyond (c .args .step) base .past
+    ap (order (base .value)) (c .target-of-goal .ensures) ∙ g .Self·Direction·met .beyond (c .args .step) base .past
     in
     let hit : order goal (c .args .price .value) ≡ true = sym {a = true} {b = order goal (c .args .price .value)} (c .if-reaches .ensures tt) in
     let ends = g .Self·Direction·met .between base (c .args .price) goal past hit in

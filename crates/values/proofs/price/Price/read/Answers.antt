@@ -13,7 +13,7 @@ returns-in-Break-price c =
     let f = c .in-Break-price .field-0 .0 in
     let text = c .args .text .now in
     let e : exit .result ≡ price-read text =
-        p .1 ∙ ap Err (p .2) ∙ is-read text (c .in-Continue-value .value) (c .in-Continue-value .ensures tt .value) (Err f) (c .in-Break-price .ensures tt)
+    p .1 ∙ ap Err (p .2) ∙ is-read text (c .in-Continue-value .value) (c .in-Continue-value .ensures tt .value) (Err f) (c .in-Break-price .ensures tt)
     in
     record { value = e; back = reads text (exit .result) e }
 

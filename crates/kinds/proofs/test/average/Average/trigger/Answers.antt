@@ -13,7 +13,7 @@ returns g c =
     let s = c .args .sum in
     let price = c .args .price in
     let same : (s + c .value .result) / c .count .result ≡ mean d s price (c .pre .0) (c .pre .1) =
-        (λ i. (s + c .value .ensures i) / c .count .ensures i)
+    (λ i. (s + c .value .ensures i) / c .count .ensures i)
     in
     let made = mean-made d s price (c .pre .0) (c .pre .1) (c .new .result) (c .new .ensures ∙ ap (checked least-price greatest-price making.Price) same) in
     record {

@@ -9,7 +9,7 @@ returns-then-long g c =
     let s = c .args .self .now in
     let t = c .in-Tick .t in
     let z = turn (g .T·Test .trigger (s .test)) (s .hold .seconds) (s .side) (s .day) (s .since) (c .args .event) (c .in-Some .day) t (c .judge-trigger .result) (c .since-next-self .result) true (c .in-Some .is) (c .in-Tick .is) (c .judge-trigger .ensures) (c .if-long .ensures tt)
-        (c .since-next-self .ensures ∙ ap (since-next (s .since) (t .moment)) (c .is-some .ensures))
+    (c .since-next-self .ensures ∙ ap (since-next (s .since) (t .moment)) (c .is-some .ensures))
     in
     record { answers = c .over-at .ensures ∙ z .0; follows = z .1 }
 
@@ -18,7 +18,7 @@ returns-else-long g c =
     let s = c .args .self .now in
     let t = c .in-Tick .t in
     let z = turn (g .T·Test .trigger (s .test)) (s .hold .seconds) (s .side) (s .day) (s .since) (c .args .event) (c .in-Some .day) t (c .judge-trigger .result) (c .since-next-self .result) false (c .in-Some .is) (c .in-Tick .is) (c .judge-trigger .ensures) (c .if-long .ensures tt)
-        (c .since-next-self .ensures ∙ ap (since-next (s .since) (t .moment)) (c .is-some .ensures))
+    (c .since-next-self .ensures ∙ ap (since-next (s .since) (t .moment)) (c .is-some .ensures))
     in
     record { answers = z .0; follows = z .1 }
 
