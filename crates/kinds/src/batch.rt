@@ -1,9 +1,7 @@
 // A batch: buys at the falling, or sells at the rising target of its base, again and again.
 ghost use mathlib.Core.Path.{_≡_};
 ghost use Rattle.values.specs.Directions.{rising-order, rising-target, falling-order, falling-target};
-ghost use Rattle.conditions.specs.declared.event.Side.the-variants as side;
-ghost use Rattle.kinds.specs.Bases.{From-latest-fire};
-ghost use Rattle.kinds.specs.Batches.{batch-means, batch-answer, buy-batch, sell-batch};
+ghost use Rattle.kinds.specs.Batches.{batch-means, base-by, fires-on, buy-batch, sell-batch};
 use conditions::condition::Condition;
 use conditions::event::Answer;
 use conditions::event::Event;
@@ -27,8 +25,7 @@ pub struct Batch<D> {
 
 impl Batch<Falling> {
     pub fn buy(base: Price, step: Step) -> Batch<Falling>
-        ensures means { λ r. ⌜ batch-means falling-order falling-target (r .side) (r .step) (r .base) ≡ buy-batch base step ⌝ }
-        ensures latest { λ _. ⌜ From-latest-fire (buy-batch base step) base (batch-answer falling-order falling-target side.Buy step) ⌝ }
+        ensures { λ r. ⌜ batch-means falling-order falling-target (r .side) (r .step) (r .base) ≡ buy-batch base step ⌝ }
     {
         Batch {
             direction: Falling,
@@ -41,8 +38,7 @@ impl Batch<Falling> {
 
 impl Batch<Rising> {
     pub fn sell(base: Price, step: Step) -> Batch<Rising>
-        ensures means { λ r. ⌜ batch-means rising-order rising-target (r .side) (r .step) (r .base) ≡ sell-batch base step ⌝ }
-        ensures latest { λ _. ⌜ From-latest-fire (sell-batch base step) base (batch-answer rising-order rising-target side.Sell step) ⌝ }
+        ensures { λ r. ⌜ batch-means rising-order rising-target (r .side) (r .step) (r .base) ≡ sell-batch base step ⌝ }
     {
         Batch {
             direction: Rising,
@@ -53,22 +49,42 @@ impl Batch<Rising> {
     }
 }
 
+impl<D: Direction> Batch<D> {
+    // The base after a price that may have reached the target.
+    fn next_base(&self, reached: Option<Price>, price: Price) -> Price
+        ensures { λ r. ⌜ r ≡ base-by (D·Direction .order) (D·Direction .target) (now (self .entry) .side) (now (self .entry) .step) reached (now (self .entry) .base) price ⌝ }
+    {
+        match reached {
+            Some(_) => price,
+            None => self.base,
+        }
+    }
+
+    // The answer to a price that may have reached the target.
+    fn answer(&self, reached: Option<Price>) -> Answer
+        ensures { λ r. ⌜ r ≡ fires-on (now (self .entry) .side) reached ⌝ }
+    {
+        match reached {
+            Some(trigger) => Answer::Fires(Fire {
+                side: self.side,
+                trigger,
+                next: Next::GoesOn,
+            }),
+            None => Answer::Wait,
+        }
+    }
+}
+
 pub impl<D: Direction> Condition for Batch<D> as BatchCondition {
     ghost meaning = { λ b. batch-means (D·Direction .order) (D·Direction .target) (b .side) (b .step) (b .base) };
 
     fn tell(&mut self, event: Event) -> Answer {
         match event {
-            Event::Tick(t) => match D::reached(self.step, self.base, t.price) {
-                Some(trigger) => {
-                    self.base = t.price;
-                    Answer::Fires(Fire {
-                        side: self.side,
-                        trigger,
-                        next: Next::GoesOn,
-                    })
-                }
-                None => Answer::Wait,
-            },
+            Event::Tick(t) => {
+                let reached = D::reached(self.step, self.base, t.price);
+                self.base = self.next_base(reached, t.price);
+                self.answer(reached)
+            }
             Event::Day(_) | Event::Settlement(_) => Answer::Wait,
         }
     }

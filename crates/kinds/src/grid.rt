@@ -1,7 +1,6 @@
 // A grid: buys at the falling, and sells at the rising target of its base, again and again.
 ghost use mathlib.Core.Path.{_≡_};
-ghost use Rattle.kinds.specs.Bases.{From-latest-fire, From-latest-fill};
-ghost use Rattle.kinds.specs.Grids.{grid-means, grid-answer, market-terms, fill-terms, market-grid, fill-grid, allowed, buy-target, sell-target, fire, moved, follows-fire};
+ghost use Rattle.kinds.specs.Grids.{grid-means, market-grid, fill-grid, allowed, buy-target, sell-target, fire, moved, follows-fire};
 use conditions::condition::Condition;
 use conditions::event::Answer;
 use conditions::event::Event;
@@ -51,8 +50,7 @@ pub struct Grid {
 impl Grid {
     // A grid whose next base is the price that fired.
     pub fn market(range: PriceRange, base: Price, down: Step, up: Step) -> Grid
-        ensures means { λ r. ⌜ grid-means (r .terms) (r .stage) ≡ market-grid range base down up ⌝ }
-        ensures latest { λ _. ⌜ From-latest-fire (market-grid range base down up) base (grid-answer (market-terms range down up)) ⌝ }
+        ensures { λ r. ⌜ grid-means (r .terms) (r .stage) ≡ market-grid range base down up ⌝ }
     {
         let terms = GridTerms {
             mode: GridMode::Market(range),
@@ -67,8 +65,7 @@ impl Grid {
 
     // A grid whose next base is the price at which its slip was settled.
     pub fn fill(base: Price, down: Step, up: Step) -> Grid
-        ensures means { λ r. ⌜ grid-means (r .terms) (r .stage) ≡ fill-grid base down up ⌝ }
-        ensures latest { λ _. ⌜ From-latest-fill (fill-grid base down up) base (grid-answer (fill-terms down up)) ⌝ }
+        ensures { λ r. ⌜ grid-means (r .terms) (r .stage) ≡ fill-grid base down up ⌝ }
     {
         let terms = GridTerms {
             mode: GridMode::Fill,

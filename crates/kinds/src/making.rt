@@ -1,12 +1,19 @@
-// The makers of those kinds that are put together from other parts. The other kinds make themselves.
+// The makers of the kinds, as orders are placed with them. Their contracts say what the made condition means,
+// and name the laws above those definitions that go event by event.
 ghost use mathlib.Core.Path.{_≡_};
 ghost use Rattle.values.specs.Making.{seen};
+ghost use Rattle.values.specs.Directions.{rising-order, rising-target, falling-order, falling-target};
 ghost use Rattle.conditions.specs.Layers.{in-range};
-ghost use Rattle.kinds.specs.Grids.{grid-means};
+ghost use Rattle.conditions.specs.declared.event.Side.the-variants as side;
+ghost use Rattle.kinds.specs.Bases.{From-latest-fire, From-latest-fill};
+ghost use Rattle.kinds.specs.Batches.{batch-means, batch-answer, buy-batch, sell-batch};
+ghost use Rattle.kinds.specs.Grids.{grid-means, grid-answer, market-terms, fill-terms, market-grid, fill-grid};
 ghost use Rattle.kinds.specs.Holds.{held-means};
 ghost use Rattle.kinds.specs.Kinds.{level-kind, move-kind, average-kind, profit-kind, profit-means, stop-or-profit, exit-means, market-grid-kind, fill-grid-kind};
 ghost use Rattle.kinds.specs.Prompts.{prompt-means};
+ghost use Rattle.kinds.specs.Trails.{trail-means, rebound, fall-back, Least-is-least};
 ghost use Rattle.kinds.specs.Tests.{level-yes, move-yes, average-yes};
+use crate::batch::Batch;
 use crate::book_kinds::StopOrProfit;
 use crate::grid::Grid;
 use crate::grid::GridCondition;
@@ -105,16 +112,50 @@ pub fn stop_or_profit(
     Ok(Either::new(level(Falling, low, Side::Sell), profit_at(high, trail)))
 }
 
+// Buys on the rebound from a low.
+pub fn rebound_buy(mark: Price, step: Step, options: TrailOptions) -> Trail<Rising>
+    ensures means { λ r. ⌜ trail-means rising-order rising-target (r .terms) (r .state) ≡ rebound mark step options ⌝ }
+    ensures least { λ _. ⌜ Least-is-least rising-order ⌝ }
+{
+    Trail::rebound_buy(mark, step, options)
+}
+
+// Sells on the fall from a top.
+pub fn fall_back_sell(mark: Price, step: Step, options: TrailOptions) -> Trail<Falling>
+    ensures means { λ r. ⌜ trail-means falling-order falling-target (r .terms) (r .state) ≡ fall-back mark step options ⌝ }
+    ensures least { λ _. ⌜ Least-is-least falling-order ⌝ }
+{
+    Trail::fall_back_sell(mark, step, options)
+}
+
+// Buys step by step as the price falls.
+pub fn buy_batch(base: Price, step: Step) -> Batch<Falling>
+    ensures means { λ r. ⌜ batch-means falling-order falling-target (r .side) (r .step) (r .base) ≡ buy-batch base step ⌝ }
+    ensures latest { λ _. ⌜ From-latest-fire (buy-batch base step) base (batch-answer falling-order falling-target side.Buy step) ⌝ }
+{
+    Batch::buy(base, step)
+}
+
+// Sells step by step as the price rises.
+pub fn sell_batch(base: Price, step: Step) -> Batch<Rising>
+    ensures means { λ r. ⌜ batch-means rising-order rising-target (r .side) (r .step) (r .base) ≡ sell-batch base step ⌝ }
+    ensures latest { λ _. ⌜ From-latest-fire (sell-batch base step) base (batch-answer rising-order rising-target side.Sell step) ⌝ }
+{
+    Batch::sell(base, step)
+}
+
 // A grid in market mode under its range: a fire outside still passes, as the last one.
 pub fn market_grid(range: PriceRange, base: Price, down: Step, up: Step) -> Range<Grid>
-    ensures { λ r. ⌜ in-range (r .range) (r .switch) (grid-means (r .below .terms) (r .below .stage)) ≡ market-grid-kind range base down up ⌝ }
+    ensures means { λ r. ⌜ in-range (r .range) (r .switch) (grid-means (r .below .terms) (r .below .stage)) ≡ market-grid-kind range base down up ⌝ }
+    ensures latest { λ _. ⌜ From-latest-fire (market-grid range base down up) base (grid-answer (market-terms range down up)) ⌝ }
 {
     Range::new(range, true, Grid::market(range, base, down, up))
 }
 
 // A grid in fill mode under its range: what fires outside lapses.
 pub fn fill_grid(range: PriceRange, base: Price, down: Step, up: Step) -> Range<Grid>
-    ensures { λ r. ⌜ in-range (r .range) (r .switch) (grid-means (r .below .terms) (r .below .stage)) ≡ fill-grid-kind range base down up ⌝ }
+    ensures means { λ r. ⌜ in-range (r .range) (r .switch) (grid-means (r .below .terms) (r .below .stage)) ≡ fill-grid-kind range base down up ⌝ }
+    ensures latest { λ _. ⌜ From-latest-fill (fill-grid base down up) base (grid-answer (fill-terms down up)) ⌝ }
 {
     Range::new(range, false, Grid::fill(base, down, up))
 }

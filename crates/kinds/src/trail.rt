@@ -4,7 +4,7 @@ ghost use mathlib.Core.Bool.{cond};
 ghost use Rattle.std.specs.Options.{orOther};
 ghost use Rattle.values.specs.Directions.{rising-order, rising-target, falling-order, falling-target};
 ghost use Rattle.conditions.specs.Meaning.{fires-over};
-ghost use Rattle.kinds.specs.Trails.{Least-is-least, trail-means, rebound, fall-back, begun, by-target, by-floor};
+ghost use Rattle.kinds.specs.Trails.{trail-means, rebound, fall-back, begun, by-target, by-floor};
 ghost use Rattle.kinds.specs.declared.trail.TrailState.the-variants as state;
 use conditions::condition::Condition;
 use conditions::event::Answer;
@@ -53,8 +53,7 @@ pub struct Trail<D> {
 impl Trail<Rising> {
     // Buys when the price rises by a step from the least one since it came down to the mark.
     pub fn rebound_buy(mark: Price, step: Step, options: TrailOptions) -> Trail<Rising>
-        ensures means { λ r. ⌜ trail-means rising-order rising-target (r .terms) (r .state) ≡ rebound mark step options ⌝ }
-        ensures least { λ _. ⌜ Least-is-least rising-order ⌝ }
+        ensures { λ r. ⌜ trail-means rising-order rising-target (r .terms) (r .state) ≡ rebound mark step options ⌝ }
     {
         let terms = TrailTerms {
             side: Side::Buy,
@@ -73,8 +72,7 @@ impl Trail<Rising> {
 impl Trail<Falling> {
     // Sells when the price falls by a step from the greatest one since it came up to the mark.
     pub fn fall_back_sell(mark: Price, step: Step, options: TrailOptions) -> Trail<Falling>
-        ensures means { λ r. ⌜ trail-means falling-order falling-target (r .terms) (r .state) ≡ fall-back mark step options ⌝ }
-        ensures least { λ _. ⌜ Least-is-least falling-order ⌝ }
+        ensures { λ r. ⌜ trail-means falling-order falling-target (r .terms) (r .state) ≡ fall-back mark step options ⌝ }
     {
         let terms = TrailTerms {
             side: Side::Sell,

@@ -12,7 +12,6 @@ use conditions::event::Event;
 use conditions::event::Next;
 use conditions::event::Side;
 use conditions::layer::range::RangeCondition;
-use kinds::batch::Batch;
 use kinds::batch::BatchCondition;
 use kinds::grid::Grid;
 use kinds::grid::GridCondition;
@@ -50,7 +49,7 @@ const STAY: TrailOptions = TrailOptions {
 
 #[test]
 fn rebound_fires_at_the_target_of_the_low() -> Result<(), Fail> {
-    let mut order = Trail::rebound_buy(Price::new(180_000)?, percent(200)?, PLAIN);
+    let mut order = making::rebound_buy(Price::new(180_000)?, percent(200)?, PLAIN);
     for price in [
         190_000,
         180_000,
@@ -71,7 +70,7 @@ fn rebound_fires_at_the_target_of_the_low() -> Result<(), Fail> {
 
 #[test]
 fn floor_fires_back_at_the_mark() -> Result<(), Fail> {
-    let mut order = Trail::rebound_buy(Price::new(180_000)?, percent(5_000)?, FLOOR);
+    let mut order = making::rebound_buy(Price::new(180_000)?, percent(5_000)?, FLOOR);
     for price in [180_000, 180_000, 181_000, 179_999] {
         check_eq(tick(&mut order, 1, price)?, Answer::Wait)?;
     }
@@ -83,7 +82,7 @@ fn floor_fires_back_at_the_mark() -> Result<(), Fail> {
 
 // A fall-back with stay, at the top 11.68 of mark 11.3333 and fall 1.6%.
 fn at_the_top() -> Result<Trail<Falling>, Fail> {
-    let mut order = Trail::fall_back_sell(Price::new(113_333)?, percent(160)?, STAY);
+    let mut order = making::fall_back_sell(Price::new(113_333)?, percent(160)?, STAY);
     check_eq(tick(&mut order, 1, 113_000)?, Answer::Wait)?;
     check_eq(tick(&mut order, 2, 113_333)?, Answer::Wait)?;
     check_eq(tick(&mut order, 3, 116_800)?, Answer::Wait)?;
@@ -149,7 +148,7 @@ fn fill_grid_waits_for_its_settlement() -> Result<(), Fail> {
 
 #[test]
 fn batch_moves_its_base_to_the_tick() -> Result<(), Fail> {
-    let mut order = Batch::sell(Price::new(100_000)?, percent(1_000)?);
+    let mut order = making::sell_batch(Price::new(100_000)?, percent(1_000)?);
     check_eq(tick(&mut order, 1, 109_999)?, Answer::Wait)?;
     check_eq(
         tick(&mut order, 2, 115_000)?,

@@ -16,7 +16,6 @@ use conditions::layer::pile::Pile;
 use conditions::layer::pile::pile;
 use conditions::layer::range::Range;
 use conditions::layer::range::RangeCondition;
-use kinds::batch::Batch;
 use kinds::batch::BatchCondition;
 use kinds::book_kinds::EitherAverage;
 use kinds::book_kinds::EitherBatch;
@@ -39,7 +38,6 @@ use kinds::test::level::LevelTest;
 use kinds::test::move_of_day::Distance;
 use kinds::test::move_of_day::MoveOfDayTest;
 use kinds::test::prompt::PromptCondition;
-use kinds::trail::Trail;
 use kinds::trail::TrailCondition;
 use kinds::trail::TrailOptions;
 use values::days::AveragingDays;
@@ -124,13 +122,13 @@ fn options_of(line: TurnLine) -> TrailOptions {
 fn rebound_of(line: TurnLine) -> Result<EitherTrail, MakingFault> {
     let mark = Price::new(line.mark)?;
     let step = step_of(line.step)?;
-    Ok(OneOf::First(Trail::rebound_buy(mark, step, options_of(line))))
+    Ok(OneOf::First(making::rebound_buy(mark, step, options_of(line))))
 }
 
 fn fall_back_of(line: TurnLine) -> Result<EitherTrail, MakingFault> {
     let mark = Price::new(line.mark)?;
     let step = step_of(line.step)?;
-    Ok(OneOf::Second(Trail::fall_back_sell(mark, step, options_of(line))))
+    Ok(OneOf::Second(making::fall_back_sell(mark, step, options_of(line))))
 }
 
 fn exit_of(line: ExitLine) -> Result<StopOrProfit, MakingFault> {
@@ -148,8 +146,8 @@ fn batch_of(side: SideWord, base: u32, step: StepLine) -> Result<EitherBatch, Ma
     let base = Price::new(base)?;
     let step = step_of(step)?;
     match side {
-        SideWord::Buy => Ok(OneOf::First(Batch::buy(base, step))),
-        SideWord::Sell => Ok(OneOf::Second(Batch::sell(base, step))),
+        SideWord::Buy => Ok(OneOf::First(making::buy_batch(base, step))),
+        SideWord::Sell => Ok(OneOf::Second(making::sell_batch(base, step))),
     }
 }
 

@@ -1,7 +1,7 @@
 // The test of a price against the average of the newest closes and itself.
 ghost use mathlib.Core.Path.{_≡_};
 ghost use mathlib.Core.Bool.{true};
-ghost use Prim.Native.Nat.{_+_, _-_, _/_};
+ghost use Prim.Native.Nat.{_+_, _-_, _*_, _/_};
 ghost use lib.Dec.{T};
 ghost use Rattle.std.specs.Options.{isSome};
 ghost use Rattle.values.specs.Days.{day-count};
@@ -28,6 +28,13 @@ impl<D> Average<D> {
         Average { direction, days }
     }
 
+    // What the sum of the other days' closes is held against.
+    fn weighed(&self, price: Price) -> u64
+        ensures { λ r. ⌜ r ≡ (day-count (now (self .entry) .days) - 1) * price .value ⌝ }
+    {
+        (self.days.count() as u64 - 1) * price.value() as u64
+    }
+
     // The average of a sum of closes and a price, which is a price like them.
     fn trigger(&self, sum: u64, price: Price) -> Option<Price>
         requires { ⌜ T (sums (day-count (now self .days) - 1) sum) ⌝ ∗ ⌜ (sum ≡ 0 → ⊥) ⌝ }
@@ -47,9 +54,8 @@ pub impl<D: Direction> Test for Average<D> as AverageTest {
         ensures value { λ r. ⌜ r ≡ average-yes (D·Direction .order) (now (self .entry) .days) (now (day .entry)) price ⌝ }
         ensures found { λ r. ⌜ isSome r ≡ at-average (D·Direction .order) (now (self .entry) .days) (now (day .entry)) price ⌝ }
     {
-        let others = self.days.count() as u64 - 1;
         let sum = day.sums.before(self.days);
-        if sum == 0 || !D::reaches(others * price.value() as u64, sum) {
+        if sum == 0 || !D::reaches(self.weighed(price), sum) {
             return None;
         }
         self.trigger(sum, price)

@@ -15,7 +15,7 @@ returns g c =
     let price = c .args .price in
     let sum = c .before-sum .ensures .value in
     let hit : true ≡ order (sum-before d (day .sums)) ((day-count d - 1) * price .value) =
-    c .if-not-reaches .ensures tt ∙ (λ i. order (sum i) ((c .count .ensures i - 1) * c .value .ensures i))
+    c .if-not-reaches .ensures tt ∙ (λ i. order (sum i) (c .weighed .ensures i))
     in
     let z = yes-average order d day price (c .trigger .result) hit (λ e. c .if-sum-eq0 .left (sum ∙ e)) (c .trigger .ensures .value ∙ ap (λ s. priced ((s + price .value) / day-count d)) sum) (c .trigger .ensures .found) in
     record { value = z .0; found = z .1 }
