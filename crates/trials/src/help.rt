@@ -39,9 +39,7 @@ pub(crate) fn fires(side: Side, trigger: u32, next: Next) -> Result<Answer, Maki
     }))
 }
 
-// A day with a previous close and no other closes known.
-pub(crate) fn plain_day(number: u16, close: u32) -> Result<Event, MakingFault> {
-    let close = Price::new(close)?;
+fn day(number: u16, close: Price, closes: &[Price]) -> Result<Event, MakingFault> {
     let upper = Price::new(120_000)?;
     let lower = Price::new(80_000)?;
     Ok(Event::Day(Day {
@@ -49,8 +47,13 @@ pub(crate) fn plain_day(number: u16, close: u32) -> Result<Event, MakingFault> {
         close,
         upper,
         lower,
-        sums: Sums::of(&[]),
+        sums: Sums::of(closes),
     }))
+}
+
+// A day with a previous close and no other closes known.
+pub(crate) fn plain_day(number: u16, close: u32) -> Result<Event, MakingFault> {
+    day(number, Price::new(close)?, &[])
 }
 
 // A day whose newest four closes sum to 43.00.
@@ -62,13 +65,5 @@ pub(crate) fn day_of_43(number: u16) -> Result<Event, MakingFault> {
         Price::new(110_000)?,
         close,
     ];
-    let upper = Price::new(120_000)?;
-    let lower = Price::new(80_000)?;
-    Ok(Event::Day(Day {
-        number,
-        close,
-        upper,
-        lower,
-        sums: Sums::of(&closes),
-    }))
+    day(number, close, &closes)
 }

@@ -80,6 +80,20 @@ pub(crate) struct Woken {
 }
 
 impl<C: Condition> Standing<C> {
+    // An order as it is placed: told the day of the share that it watches, if there is one.
+    fn placed(line: &PlaceLine, condition: C, day: Option<Day>) -> Standing<C> {
+        let mut order = Standing {
+            number: line.number,
+            watched: line.watched,
+            condition,
+            ended: false,
+        };
+        if let Some(d) = day {
+            let _ = order.hear(line.watched, Event::Day(d));
+        }
+        order
+    }
+
     // Tells the order an event of a share, and hands back its fire.
     fn hear(&mut self, share: u8, event: Event) -> Option<Woken> {
         if self.ended || self.watched != share {
@@ -219,30 +233,8 @@ impl Desk {
     pub(crate) fn place(&mut self, line: &PlaceLine, made: Made) -> Result<(), DeskFault> {
         let day = self.day_of(line.watched);
         match made {
-            Made::Single(condition) => {
-                let mut order = Standing {
-                    number: line.number,
-                    watched: line.watched,
-                    condition,
-                    ended: false,
-                };
-                if let Some(d) = day {
-                    let _ = order.hear(line.watched, Event::Day(d));
-                }
-                self.single.push(order)?;
-            }
-            Made::Repeating(condition) => {
-                let mut order = Standing {
-                    number: line.number,
-                    watched: line.watched,
-                    condition,
-                    ended: false,
-                };
-                if let Some(d) = day {
-                    let _ = order.hear(line.watched, Event::Day(d));
-                }
-                self.grid.push(order)?;
-            }
+            Made::Single(condition) => self.single.push(Standing::placed(line, condition, day))?,
+            Made::Repeating(condition) => self.grid.push(Standing::placed(line, condition, day))?,
         }
         Ok(())
     }
