@@ -1,0 +1,13 @@
+pub mod Books
+pub mod DayTotals
+pub mod Granting
+pub mod Laws
+pub mod Lone
+pub mod Meanings
+pub mod Noting
+pub mod Numbered
+pub mod Runs
+pub mod Striking
+pub mod Tracks
+pub mod Waiting
+pub mod Working

@@ -1,0 +1,15 @@
+pub mod Bearing
+pub mod Book
+pub mod Bounds
+pub mod Calls
+pub mod Checks
+pub mod DaySums
+pub mod Law
+pub mod Machine
+pub mod Market
+pub mod Numbers
+pub mod OwnEvents
+pub mod Reading
+pub mod SlipRule
+pub mod Trace
+pub mod WorkedPrices
