@@ -52,15 +52,15 @@ all-standing limit m c [] = refl
 all-standing limit m c (r ∷ rs) = joined-append (turn limit m c) (standing r) (joined standing rs) ∙ ap₂ _++_ (one-row limit m c r) (all-standing limit m c rs)
 
 -- a call by a number, where an order of another is as it was, and at most one order of that number stands
-module _ (limit : ℕ) (m : Market) (c : Single) (j : ℕ) (other : (r : Row) → eqb j (number-of (r .order)) ≡ false → row-after limit m c r ≡ r) where
+module _ (limit : ℕ) (m : Market) (c : Single) (j : ℕ) (other : (r : Row) → eqb j (r .terms .number) ≡ false → row-after limit m c r ≡ r) where
   -- an order that does not stand, or of another number
   gone : (r : Row) → standing r ≡ [] → turn limit m c r ≡ []
   gone r e = sym (one-row limit m c r) ∙ ap (joined (turn limit m c)) e
 
   stays : (r : Row) → length (of-number j (standing r)) ≡ 0 → standing r ≡ turn limit m c r
-  stays r h = go (isSome (r .machine) || r .claimed) refl (eqb j (number-of (r .order))) refl
+  stays r h = go (isSome (r .machine) || r .claimed) refl (eqb j (r .terms .number)) refl
     where
-      go : (t : Bool) → (isSome (r .machine) || r .claimed) ≡ t → (u : Bool) → eqb j (number-of (r .order)) ≡ u → standing r ≡ turn limit m c r
+      go : (t : Bool) → (isSome (r .machine) || r .claimed) ≡ t → (u : Bool) → eqb j (r .terms .number) ≡ u → standing r ≡ turn limit m c r
       go false e u f = let n : standing r ≡ [] = ap (λ t. cond t (r ∷ []) []) e in n ∙ sym (gone r n)
       go true e false f = ap standing (sym (other r f))
       go true e true f =
@@ -78,7 +78,7 @@ module _ (limit : ℕ) (m : Market) (c : Single) (j : ℕ) (other : (r : Row) �
 
   one-standing : (rs : List Row) → length (of-number j (joined standing rs)) ≤ 1 → on-row j (turn limit m c) (joined standing rs) ≡ joined standing (map (row-after limit m c) rs)
   one-standing [] h = refl
-  one-standing (r ∷ rs) h = go (isSome (r .machine) || r .claimed) refl (eqb j (number-of (r .order))) refl (one-standing rs rest)
+  one-standing (r ∷ rs) h = go (isSome (r .machine) || r .claimed) refl (eqb j (r .terms .number)) refl (one-standing rs rest)
     where
       f : Row → List Row
       f = turn limit m c
@@ -95,17 +95,17 @@ module _ (limit : ℕ) (m : Market) (c : Single) (j : ℕ) (other : (r : Row) �
       rest : length (of-number j js) ≤ 1
       rest = omega (arith, parts, h)
 
-      go : (t : Bool) → (isSome (r .machine) || r .claimed) ≡ t → (u : Bool) → eqb j (number-of (r .order)) ≡ u → on-row j f js ≡ js′ → on-row j f (standing r ++ js) ≡ f r ++ js′
+      go : (t : Bool) → (isSome (r .machine) || r .claimed) ≡ t → (u : Bool) → eqb j (r .terms .number) ≡ u → on-row j f js ≡ js′ → on-row j f (standing r ++ js) ≡ f r ++ js′
       go false e u g ih =
           let n : standing r ≡ [] = ap (λ t. cond t (r ∷ []) []) e in
           ap (λ x. on-row j f (x ++ js)) n ∙ ih ∙ ap (λ x. x ++ js′) (sym (gone r n))
       go true e true g ih =
           let n : standing r ≡ r ∷ [] = ap (λ t. cond t (r ∷ []) []) e in
           let z : length (of-number j (standing r)) ≡ 1 = ap (λ x. length (of-number j x)) n ∙ ap (λ u. length (cond u (r ∷ []) [])) g in
-          ap (λ x. on-row j f (x ++ js)) n ∙ cond-true (eqb j (number-of (r .order))) _ _ g ∙ ap (λ x. f r ++ x) (untouched rs (omega (arith, parts, z, h)))
+          ap (λ x. on-row j f (x ++ js)) n ∙ cond-true (eqb j (r .terms .number)) _ _ g ∙ ap (λ x. f r ++ x) (untouched rs (omega (arith, parts, z, h)))
       go true e false g ih =
           let n : standing r ≡ r ∷ [] = ap (λ t. cond t (r ∷ []) []) e in
-          ap (λ x. on-row j f (x ++ js)) n ∙ cond-false (eqb j (number-of (r .order))) _ _ g ∙ ap (λ x. r ∷ x) ih ∙ ap (λ x. x ++ js′) (sym n ∙ ap standing (sym (other r g)))
+          ap (λ x. on-row j f (x ++ js)) n ∙ cond-false (eqb j (r .terms .number)) _ _ g ∙ ap (λ x. r ∷ x) ih ∙ ap (λ x. x ++ js′) (sym n ∙ ap standing (sym (other r g)))
 
 rows-standing : (limit : ℕ) (m : Market) (c : Single) (rs : List Row) → Lone (joined standing rs) → rows-after limit m c (joined standing rs) ≡ joined standing (map (row-after limit m c) rs)
 rows-standing limit m (listing h closes) rs l = ap (joined standing) (map-same rs)
@@ -140,14 +140,14 @@ rows-granted su s rs c o h g =
     ∙ sym (joined-append standing (map (row-after l m c) rs) (placed l m c))
     ∙ ap₂ (λ a b. joined standing (a ++ b))
     (map-path (row-after l m c) (row-with l m (entry (single c) (granted-reply su s c)))
-    (λ r. ap (λ b. row (r .order) (runs (r .order .terms) l (r .machine) (cond b (bears m c (r .order)) [])) (cond b (claimed-after c r) (r .claimed))) (sym (granted-is su s c))) rs)
+    (λ r. ap (λ b. row (r .terms) (runs (r .terms) l (r .machine) (cond b (bears m c (r .terms)) [])) (cond b (claimed-after c r) (r .claimed))) (sym (granted-is su s c))) rs)
     (ap (λ b. cond b (placed l m c) []) (sym (granted-is su s c)))
 
 rows-refused : (su : Setup) (s : State) (rs : List Row) (c : Single) (f : Refusal) → s .rows ≡ joined standing rs → Rows-so su s rs (single c) s (refused f)
 rows-refused su s rs c f h = h ∙ ap (joined standing) (map-same rs ∙ sym (append-nil _))
 
 abbrev row-quoted : ℕ → List Quote → Row → Row
-row-quoted limit qs r = row (r .order) (runs (r .order .terms) limit (r .machine) (joined (own-quotes (r .order .terms)) qs)) (r .claimed)
+row-quoted limit qs r = row (r .terms) (runs (r .terms) limit (r .machine) (joined (own-quotes (r .terms)) qs)) (r .claimed)
 
 rows-burst : (su : Setup) (qs : List Quote) (n : ℕ) (s : State) (rs : List Row) → s .rows ≡ joined standing rs
     → bursts su s qs n .state .rows ≡ joined standing (map (row-quoted (su .limit) (take (bursts su s qs n .count) qs)) rs)
@@ -164,7 +164,7 @@ rows-burst su (q ∷ qs) n s rs h =
     elim (first-fault (quote-call-checks s q n)) as (λ y. one-more y s ss x .state .rows ≡ joined standing (map (row-quoted l (take (one-more y s ss x .count) (q ∷ qs))) rs)) [
       | None ↦ ih ∙ ap (joined standing) (map-twice g f rs
           ∙ map-path (λ r. g (f r)) (row-quoted l (q ∷ take (x .count) qs))
-          (λ r. ap (λ y. row (r .order) y (r .claimed)) (sym (runs-append (r .order .terms) l (r .machine) (own-quotes (r .order .terms) q) (joined (own-quotes (r .order .terms)) (take (x .count) qs))))) rs)
+          (λ r. ap (λ y. row (r .terms) y (r .claimed)) (sym (runs-append (r .terms) l (r .machine) (own-quotes (r .terms) q) (joined (own-quotes (r .terms)) (take (x .count) qs))))) rs)
       | Some k ↦ h ∙ ap (joined standing) (map-same rs)
     ]
 
@@ -241,4 +241,4 @@ counted f (x ∷ xs) =
 pub one-of-a-number : One-of-a-number
 one-of-a-number su cs k =
     let rows : List Row = state-by su new cs .rows in
-    subst (λ n. n ≤ 1) (sym (counted (λ r. eqb k (number-of (r .order))) rows)) (lone-by su cs new lone-new k)
+    subst (λ n. n ≤ 1) (sym (counted (λ r. eqb k (r .terms .number)) rows)) (lone-by su cs new lone-new k)

@@ -52,22 +52,22 @@ granted-state su s c g = ap (λ x. x .0) (let-through su s c (refusal su s c) g)
 -- no row bears a number that is not in the book
 pub none-of : (k : ℕ) (rs : List Row) → isSome (row-of k rs) ≡ false → of-number k rs ≡ []
 none-of k [] h = refl
-none-of k (r ∷ rs) h = go (eqb k (number-of (r .order))) h (none-of k rs)
+none-of k (r ∷ rs) h = go (eqb k (r .terms .number)) h (none-of k rs)
   where
     go : (t : Bool) → isSome (cond t (Some r) (row-of k rs)) ≡ false → (isSome (row-of k rs) ≡ false → of-number k rs ≡ []) → cond t (r ∷ of-number k rs) (of-number k rs) ≡ []
     go true e ih = absurd (true≢false e)
     go false e ih = ih e
 
-stands-unless : (o : Order) (x : Bool) (s : Machine) → x ≡ false → row o (cond x None (Some s)) false ∷ [] ≡ standing (row o (cond x None (Some s)) false)
+stands-unless : (o : Order) (x : Bool) (s : Machine) → x ≡ false → row (o .terms) (cond x None (Some s)) false ∷ [] ≡ standing (row (o .terms) (cond x None (Some s)) false)
 stands-unless o true s e = absurd (true≢false e)
 stands-unless o false s e = refl
 
 pub stands-first : (o : Order) (limit : ℕ) (m : Market) (d : Option Day) → not (isSome d) ≡ false → lapses-on (o .meaning) d ≡ false
-    → let r : Row = row o (runs (o .terms) limit (new-machine o) (own-first m o d)) false in r ∷ [] ≡ standing r
+    → let r : Row = row (o .terms) (runs (o .terms) limit (new-machine o) (own-first m o d)) false in r ∷ [] ≡ standing r
 stands-first o limit m None e f = absurd (true≢false e)
 stands-first o limit m (Some d) e f = stands-unless o _ _ f
 
-pub placed-stands : (su : Setup) (s : State) (o : Order) → Passes (place-checks su s o) → placed (su .limit) (s .market) (placing o) ≡ standing (row o (runs (o .terms) (su .limit) (new-machine o) (begins (s .market) o)) false)
+pub placed-stands : (su : Setup) (s : State) (o : Order) → Passes (place-checks su s o) → placed (su .limit) (s .market) (placing o) ≡ standing (row (o .terms) (runs (o .terms) (su .limit) (new-machine o) (begins (s .market) o)) false)
 placed-stands su s o p = stands-first o (su .limit) (s .market) (day-of (s .market (o .terms .watched))) (p .1 .1 .1 .1 .1 .1 .1 .0) (p .1 .1 .1 .1 .1 .1 .1 .1 .1 .1 .1 .1 .0)
 
 -- an order that is granted stands as its machine starts
@@ -78,7 +78,7 @@ granted-stands su s o g =
     let c : Single = placing o in
     let p = place-passes su s o g in
     ap (λ x. of-number k (x .rows)) (granted-state su s c g)
-    ∙ kept-append (λ r. eqb k (number-of (r .order))) (s .rows) (placed (su .limit) (s .market) c)
+    ∙ kept-append (λ r. eqb k (r .terms .number)) (s .rows) (placed (su .limit) (s .market) c)
     ∙ ap₂ _++_ (none-of k (s .rows) (p .1 .0)) (cond-true (eqb k k) _ _ (eq-eqb k k refl))
     ∙ placed-stands su s o p
 

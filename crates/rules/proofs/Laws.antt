@@ -61,7 +61,7 @@ nobody k =
 pub no-stray : Every-run No-stray
 no-stray su cs k =
     follow su (nobody k) cs new None false refl
-    ∙ writes-none (nobody k .terms) (su .limit) (owns (nobody k) (new .market) (span k (trace su new cs)))
+    ∙ writes-none (nobody k .terms) (su .limit) (owns (nobody k .terms) (new .market) (span k (trace su new cs)))
 
 pub independent : Independent
 independent o l su cs before later e su′ cs′ before′ later′ e′ i h =
@@ -170,7 +170,7 @@ claims-held su cs before o between c r later e no-other =
 
     here : (cs₁ : List Call) (g : granted (step su (state-by su new cs₁) (single (placing o)) .1) ≡ true) (cs₃ : List Call)
         → let m : List Entry = trace su (then su cs₁ o g) cs₃ in let s : State = state-by su (then su cs₁ o g) cs₃ in
-        of-number k (s .rows) ≡ standing (record { order = o; machine = machine (trace su new cs₁) m; claimed = claimed-from k false m })
+        of-number k (s .rows) ≡ standing (record { terms = o .terms; machine = machine (trace su new cs₁) m; claimed = claimed-from k false m })
         → (y : Call) → entry y (step su s y .1) ≡ entry (single c) r → Held (trace su new cs₁) m c r
     here cs₁ g cs₃ h y z =
         let m : List Entry = trace su (then su cs₁ o g) cs₃ in

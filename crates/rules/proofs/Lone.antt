@@ -37,21 +37,21 @@ turn-all limit m c [] = omega arith
 turn-all limit m c (r ∷ rs) = omega (arith, length-append (turn limit m c r) (joined (turn limit m c) rs), turn-one limit m c r, turn-all limit m c rs)
 
 turn-numbered : (k limit : ℕ) (m : Market) (c : Single) (r : Row) → length (of-number k (turn limit m c r)) ≤ length (of-number k (r ∷ []))
-turn-numbered k limit m c r = go (isSome (row-after limit m c r .machine) || row-after limit m c r .claimed) (eqb k (number-of (r .order)))
+turn-numbered k limit m c r = go (isSome (row-after limit m c r .machine) || row-after limit m c r .claimed) (eqb k (r .terms .number))
   where
     x : Row
     x = row-after limit m c r
 
     go : (s t : Bool) → length (of-number k (cond s (x ∷ []) [])) ≤ length (of-number k (r ∷ []))
-    go true t = elim (eqb k (number-of (r .order))) as (λ b. length (cond b (x ∷ []) []) ≤ length (cond b (r ∷ []) [])) [ true ↦ omega arith | false ↦ omega arith ]
+    go true t = elim (eqb k (r .terms .number)) as (λ b. length (cond b (x ∷ []) []) ≤ length (cond b (r ∷ []) [])) [ true ↦ omega arith | false ↦ omega arith ]
     go false t = omega arith
 
 pub of-append : (k : ℕ) (a b : List Row) → length (of-number k (a ++ b)) ≡ length (of-number k a) + length (of-number k b)
-of-append k a b = ap length (kept-append (λ r. eqb k (number-of (r .order))) a b) ∙ length-append (of-number k a) (of-number k b)
+of-append k a b = ap length (kept-append (λ r. eqb k (r .terms .number)) a b) ∙ length-append (of-number k a) (of-number k b)
 
 on-fewer : (k j limit : ℕ) (m : Market) (c : Single) (rs : List Row) → length (of-number k (on-row j (turn limit m c) rs)) ≤ length (of-number k rs)
 on-fewer k j limit m c [] = omega arith
-on-fewer k j limit m c (r ∷ rs) = go (eqb j (number-of (r .order))) (on-fewer k j limit m c rs)
+on-fewer k j limit m c (r ∷ rs) = go (eqb j (r .terms .number)) (on-fewer k j limit m c rs)
   where
     go : (t : Bool) → length (of-number k (on-row j (turn limit m c) rs)) ≤ length (of-number k rs)
         → length (of-number k (cond t (turn limit m c r ++ rs) (r ∷ on-row j (turn limit m c) rs))) ≤ length (of-number k (r ∷ rs))

@@ -65,7 +65,7 @@ kept-joined f g give h (x ∷ xs) =
 
 -- the rows that bear a number
 abbrev pub of-number : ℕ → List Row → List Row
-of-number k rows = kept-by (λ r. eqb k (number-of (r .order))) rows
+of-number k rows = kept-by (λ r. eqb k (r .terms .number)) rows
 
 -- every slip bears the machine's number
 abbrev Bears : ℕ → Terms → List Slip → Type 0
@@ -101,13 +101,13 @@ bears-all k t limit s (e ∷ es) =
 
 pub slips-numbered : (k limit : ℕ) (m : Market) (c : Single) (rs : List Row) → slips-of k (slips-after limit m c rs) ≡ slips-after limit m c (of-number k rs)
 slips-numbered k limit m c rs =
-    kept-joined (λ s. eqb k (s .number)) (λ r. eqb k (number-of (r .order))) (λ r. writes (r .order .terms) limit (r .machine) (bears m c (r .order)))
-    (λ r. bears-all k (r .order .terms) limit (r .machine) (bears m c (r .order))) rs
+    kept-joined (λ s. eqb k (s .number)) (λ r. eqb k (r .terms .number)) (λ r. writes (r .terms) limit (r .machine) (bears m c (r .terms)))
+    (λ r. bears-all k (r .terms) limit (r .machine) (bears m c (r .terms))) rs
 
-standing-numbered : (k : ℕ) (r : Row) → of-number k (standing r) ≡ cond (eqb k (number-of (r .order))) (standing r) []
+standing-numbered : (k : ℕ) (r : Row) → of-number k (standing r) ≡ cond (eqb k (r .terms .number)) (standing r) []
 standing-numbered k r =
-    elim (isSome (r .machine) || r .claimed) as (λ t. of-number k (cond t (r ∷ []) []) ≡ cond (eqb k (number-of (r .order))) (cond t (r ∷ []) []) [])
-    [ true ↦ refl | false ↦ nil-cond (eqb k (number-of (r .order))) ]
+    elim (isSome (r .machine) || r .claimed) as (λ t. of-number k (cond t (r ∷ []) []) ≡ cond (eqb k (r .terms .number)) (cond t (r ∷ []) []) [])
+    [ true ↦ refl | false ↦ nil-cond (eqb k (r .terms .number)) ]
 
 -- a turn of each row
 abbrev pub turn : ℕ → Market → Single → Row → List Row
@@ -115,7 +115,7 @@ turn limit m c r = standing (row-after limit m c r)
 
 pub all-numbered : (k limit : ℕ) (m : Market) (c : Single) (rs : List Row) → of-number k (joined (turn limit m c) rs) ≡ joined (turn limit m c) (of-number k rs)
 all-numbered k limit m c rs =
-    kept-joined (λ r. eqb k (number-of (r .order))) (λ r. eqb k (number-of (r .order))) (turn limit m c) (λ r. standing-numbered k (row-after limit m c r)) rs
+    kept-joined (λ r. eqb k (r .terms .number)) (λ r. eqb k (r .terms .number)) (turn limit m c) (λ r. standing-numbered k (row-after limit m c r)) rs
 
 placed-numbered : (k limit : ℕ) (m : Market) (c : Single) → places k (single c) ≡ false → of-number k (placed limit m c) ≡ []
 placed-numbered k limit m (listing h closes) e = refl
@@ -127,111 +127,111 @@ placed-numbered k limit m (claiming j) e = refl
 placed-numbered k limit m (settling t f) e = refl
 placed-numbered k limit m (asking j) e = refl
 
-abbrev pub row : Order → Option Machine → Bool → Row
-row o s b = record { order = o; machine = s; claimed = b }
+abbrev pub row : Terms → Option Machine → Bool → Row
+row t s b = record { terms = t; machine = s; claimed = b }
 
 -- nothing wakes an order that has left
 cond-same : (b : Bool) → cond b false false ≡ false
 cond-same true = refl
 cond-same false = refl
 
-claim-left : (c : Single) (o : Order) → claimed-after c (row o None false) ≡ false
+claim-left : (c : Single) (t : Terms) → claimed-after c (row t None false) ≡ false
 claim-left (listing h closes) o = refl
 claim-left (opening d) o = refl
 claim-left (placing p) o = refl
 claim-left (quoting q n) o = refl
 claim-left (cancelling j) o = refl
-claim-left (claiming j) o = cond-same (eqb j (number-of o))
-claim-left (settling t f) o = cond-same (eqb (t .number) (number-of o))
+claim-left (claiming j) o = cond-same (eqb j (o .number))
+claim-left (settling t f) o = cond-same (eqb (t .number) (o .number))
 claim-left (asking j) o = refl
 
-left : (limit : ℕ) (m : Market) (c : Single) (o : Order) → standing (row-after limit m c (row o None false)) ≡ []
-left limit m c o = ap₂ (λ x b. standing (row o x b)) (runs-none (o .terms) limit (bears m c o)) (claim-left c o)
+left : (limit : ℕ) (m : Market) (c : Single) (t : Terms) → standing (row-after limit m c (row t None false)) ≡ []
+left limit m c t = ap₂ (λ x b. standing (row t x b)) (runs-none t limit (bears m c t)) (claim-left c t)
 
 -- one row, that stands or has left
 pub one-row : (limit : ℕ) (m : Market) (c : Single) (r : Row) → joined (turn limit m c) (standing r) ≡ turn limit m c r
 one-row limit m c r = go (r .machine) (r .claimed)
   where
-    go : (s : Option Machine) (b : Bool) → joined (turn limit m c) (standing (row (r .order) s b)) ≡ turn limit m c (row (r .order) s b)
-    go None false = sym (left limit m c (r .order))
+    go : (s : Option Machine) (b : Bool) → joined (turn limit m c) (standing (row (r .terms) s b)) ≡ turn limit m c (row (r .terms) s b)
+    go None false = sym (left limit m c (r .terms))
     go None true = append-nil _
     go (Some s) b = append-nil _
 
 -- the same by its number
-on-one : (limit : ℕ) (m : Market) (c : Single) (r : Row) → on-row (number-of (r .order)) (turn limit m c) (standing r) ≡ turn limit m c r
+on-one : (limit : ℕ) (m : Market) (c : Single) (r : Row) → on-row (r .terms .number) (turn limit m c) (standing r) ≡ turn limit m c r
 on-one limit m c r = go (r .machine) (r .claimed)
   where
     k : ℕ
-    k = number-of (r .order)
+    k = r .terms .number
 
-    here : (x : Row) → number-of (x .order) ≡ k → on-row k (turn limit m c) (x ∷ []) ≡ turn limit m c x
-    here x e = cond-true (eqb k (number-of (x .order))) _ _ (eq-eqb k (number-of (x .order)) (sym e)) ∙ append-nil _
+    here : (x : Row) → x .terms .number ≡ k → on-row k (turn limit m c) (x ∷ []) ≡ turn limit m c x
+    here x e = cond-true (eqb k (x .terms .number)) _ _ (eq-eqb k (x .terms .number) (sym e)) ∙ append-nil _
 
-    go : (s : Option Machine) (b : Bool) → on-row k (turn limit m c) (standing (row (r .order) s b)) ≡ turn limit m c (row (r .order) s b)
-    go None false = sym (left limit m c (r .order))
-    go None true = here (row (r .order) None true) refl
-    go (Some s) b = here (row (r .order) (Some s) b) refl
+    go : (s : Option Machine) (b : Bool) → on-row k (turn limit m c) (standing (row (r .terms) s b)) ≡ turn limit m c (row (r .terms) s b)
+    go None false = sym (left limit m c (r .terms))
+    go None true = here (row (r .terms) None true) refl
+    go (Some s) b = here (row (r .terms) (Some s) b) refl
 
 -- the rows of a number, where the row of that number is turned, and where another is
 on-numbered : (k limit : ℕ) (m : Market) (c : Single) (rs : List Row) → of-number k (on-row k (turn limit m c) rs) ≡ on-row k (turn limit m c) (of-number k rs)
 on-numbered k limit m c [] = refl
-on-numbered k limit m c (r ∷ rs) = go (eqb k (number-of (r .order))) refl (on-numbered k limit m c rs)
+on-numbered k limit m c (r ∷ rs) = go (eqb k (r .terms .number)) refl (on-numbered k limit m c rs)
   where
     f : Row → List Row
     f = turn limit m c
 
-    go : (t : Bool) → eqb k (number-of (r .order)) ≡ t → of-number k (on-row k f rs) ≡ on-row k f (of-number k rs)
+    go : (t : Bool) → eqb k (r .terms .number) ≡ t → of-number k (on-row k f rs) ≡ on-row k f (of-number k rs)
         → of-number k (cond t (f r ++ rs) (r ∷ on-row k f rs)) ≡ on-row k f (cond t (r ∷ of-number k rs) (of-number k rs))
     go true e ih =
-        kept-append (λ x. eqb k (number-of (x .order))) (f r) rs
-        ∙ ap (λ x. x ++ of-number k rs) (standing-numbered k (row-after limit m c r) ∙ cond-true (eqb k (number-of (r .order))) _ _ e)
-        ∙ sym (cond-true (eqb k (number-of (r .order))) _ _ e)
-    go false e ih = cond-false (eqb k (number-of (r .order))) _ _ e ∙ ih
+        kept-append (λ x. eqb k (x .terms .number)) (f r) rs
+        ∙ ap (λ x. x ++ of-number k rs) (standing-numbered k (row-after limit m c r) ∙ cond-true (eqb k (r .terms .number)) _ _ e)
+        ∙ sym (cond-true (eqb k (r .terms .number)) _ _ e)
+    go false e ih = cond-false (eqb k (r .terms .number)) _ _ e ∙ ih
 
 on-another : (k j limit : ℕ) (m : Market) (c : Single) → eqb j k ≡ false → (rs : List Row) → of-number k (on-row j (turn limit m c) rs) ≡ of-number k rs
 on-another k j limit m c h [] = refl
-on-another k j limit m c h (r ∷ rs) = go (eqb j (number-of (r .order))) refl (on-another k j limit m c h rs)
+on-another k j limit m c h (r ∷ rs) = go (eqb j (r .terms .number)) refl (on-another k j limit m c h rs)
   where
     f : Row → List Row
     f = turn limit m c
 
-    apart : eqb j (number-of (r .order)) ≡ true → eqb k (number-of (r .order)) ≡ false
-    apart e = subst (λ x. eqb k x ≡ false) (eqb-true j (number-of (r .order)) e) (ne-eqb k j (λ p. eqb-false j k h (sym p)))
+    apart : eqb j (r .terms .number) ≡ true → eqb k (r .terms .number) ≡ false
+    apart e = subst (λ x. eqb k x ≡ false) (eqb-true j (r .terms .number) e) (ne-eqb k j (λ p. eqb-false j k h (sym p)))
 
-    go : (t : Bool) → eqb j (number-of (r .order)) ≡ t → of-number k (on-row j f rs) ≡ of-number k rs
+    go : (t : Bool) → eqb j (r .terms .number) ≡ t → of-number k (on-row j f rs) ≡ of-number k rs
         → of-number k (cond t (f r ++ rs) (r ∷ on-row j f rs)) ≡ of-number k (r ∷ rs)
     go true e ih =
-        kept-append (λ x. eqb k (number-of (x .order))) (f r) rs
-        ∙ ap (λ x. x ++ of-number k rs) (standing-numbered k (row-after limit m c r) ∙ cond-false (eqb k (number-of (r .order))) _ _ (apart e))
-        ∙ sym (cond-false (eqb k (number-of (r .order))) _ _ (apart e))
-    go false e ih = ap (λ x. cond (eqb k (number-of (r .order))) (r ∷ x) x) ih
+        kept-append (λ x. eqb k (x .terms .number)) (f r) rs
+        ∙ ap (λ x. x ++ of-number k rs) (standing-numbered k (row-after limit m c r) ∙ cond-false (eqb k (r .terms .number)) _ _ (apart e))
+        ∙ sym (cond-false (eqb k (r .terms .number)) _ _ (apart e))
+    go false e ih = ap (λ x. cond (eqb k (r .terms .number)) (r ∷ x) x) ih
 
 -- a call by a number is nothing to an order of another
-pub not-meant-cancel : (limit : ℕ) (m : Market) (j : ℕ) (r : Row) → eqb j (number-of (r .order)) ≡ false → row-after limit m (cancelling j) r ≡ r
-not-meant-cancel limit m j r e = ap (λ t. row (r .order) (runs (r .order .terms) limit (r .machine) (cond t (own-cancel ∷ []) [])) (r .claimed)) e
+pub not-meant-cancel : (limit : ℕ) (m : Market) (j : ℕ) (r : Row) → eqb j (r .terms .number) ≡ false → row-after limit m (cancelling j) r ≡ r
+not-meant-cancel limit m j r e = ap (λ t. row (r .terms) (runs (r .terms) limit (r .machine) (cond t (own-cancel ∷ []) [])) (r .claimed)) e
 
-pub not-meant-claim : (limit : ℕ) (m : Market) (j : ℕ) (r : Row) → eqb j (number-of (r .order)) ≡ false → row-after limit m (claiming j) r ≡ r
-not-meant-claim limit m j r e = ap (λ t. row (r .order) (r .machine) (cond t (r .claimed || claimable r) (r .claimed))) e
+pub not-meant-claim : (limit : ℕ) (m : Market) (j : ℕ) (r : Row) → eqb j (r .terms .number) ≡ false → row-after limit m (claiming j) r ≡ r
+not-meant-claim limit m j r e = ap (λ t. row (r .terms) (r .machine) (cond t (r .claimed || claimable r) (r .claimed))) e
 
-pub not-meant-settle : (limit : ℕ) (m : Market) (t : Ticket) (f : Option Price) (r : Row) → eqb (t .number) (number-of (r .order)) ≡ false → row-after limit m (settling t f) r ≡ r
-not-meant-settle limit m t f r e = ap (λ b. row (r .order) (runs (r .order .terms) limit (r .machine) (cond b (own-settlement f ∷ []) [])) (cond b false (r .claimed))) e
+pub not-meant-settle : (limit : ℕ) (m : Market) (t : Ticket) (f : Option Price) (r : Row) → eqb (t .number) (r .terms .number) ≡ false → row-after limit m (settling t f) r ≡ r
+not-meant-settle limit m t f r e = ap (λ b. row (r .terms) (runs (r .terms) limit (r .machine) (cond b (own-settlement f ∷ []) [])) (cond b false (r .claimed))) e
 
 -- an order that stands, or has left, once a call has turned the rows
-on-stands : (limit : ℕ) (m : Market) (c : Single) (j : ℕ) (r : Row) → (eqb j (number-of (r .order)) ≡ false → row-after limit m c r ≡ r)
-    → (rs : List Row) → of-number (number-of (r .order)) rs ≡ standing r → of-number (number-of (r .order)) (on-row j (turn limit m c) rs) ≡ turn limit m c r
-on-stands limit m c j r other rs h = go (eqb j (number-of (r .order))) refl
+on-stands : (limit : ℕ) (m : Market) (c : Single) (j : ℕ) (r : Row) → (eqb j (r .terms .number) ≡ false → row-after limit m c r ≡ r)
+    → (rs : List Row) → of-number (r .terms .number) rs ≡ standing r → of-number (r .terms .number) (on-row j (turn limit m c) rs) ≡ turn limit m c r
+on-stands limit m c j r other rs h = go (eqb j (r .terms .number)) refl
   where
     k : ℕ
-    k = number-of (r .order)
+    k = r .terms .number
 
     go : (t : Bool) → eqb j k ≡ t → of-number k (on-row j (turn limit m c) rs) ≡ turn limit m c r
     go true e = ap (λ i. of-number k (on-row i (turn limit m c) rs)) (eqb-true j k e) ∙ on-numbered k limit m c rs ∙ ap (on-row k (turn limit m c)) h ∙ on-one limit m c r
     go false e = on-another k j limit m c e rs ∙ h ∙ ap standing (sym (other e))
 
-all-stands : (limit : ℕ) (m : Market) (c : Single) (r : Row) (rs : List Row) → of-number (number-of (r .order)) rs ≡ standing r → of-number (number-of (r .order)) (joined (turn limit m c) rs) ≡ turn limit m c r
-all-stands limit m c r rs h = all-numbered (number-of (r .order)) limit m c rs ∙ ap (joined (turn limit m c)) h ∙ one-row limit m c r
+all-stands : (limit : ℕ) (m : Market) (c : Single) (r : Row) (rs : List Row) → of-number (r .terms .number) rs ≡ standing r → of-number (r .terms .number) (joined (turn limit m c) rs) ≡ turn limit m c r
+all-stands limit m c r rs h = all-numbered (r .terms .number) limit m c rs ∙ ap (joined (turn limit m c)) h ∙ one-row limit m c r
 
-rows-stand : (limit : ℕ) (m : Market) (c : Single) (r : Row) (rs : List Row) → of-number (number-of (r .order)) rs ≡ standing r → of-number (number-of (r .order)) (rows-after limit m c rs) ≡ turn limit m c r
+rows-stand : (limit : ℕ) (m : Market) (c : Single) (r : Row) (rs : List Row) → of-number (r .terms .number) rs ≡ standing r → of-number (r .terms .number) (rows-after limit m c rs) ≡ turn limit m c r
 rows-stand limit m (listing i closes) r rs h = h
 rows-stand limit m (opening d) r rs h = all-stands limit m (opening d) r rs h
 rows-stand limit m (placing o) r rs h = h
@@ -241,17 +241,17 @@ rows-stand limit m (claiming j) r rs h = on-stands limit m (claiming j) j r (not
 rows-stand limit m (settling t f) r rs h = on-stands limit m (settling t f) (t .number) r (not-meant-settle limit m t f r) rs h
 rows-stand limit m (asking j) r rs h = h
 
-pub one-slips : (limit : ℕ) (m : Market) (c : Single) (o : Order) (s : Option Machine) (b : Bool) → slips-after limit m c (standing (row o s b)) ≡ writes (o .terms) limit s (bears m c o)
-one-slips limit m c o None false = sym (writes-none (o .terms) limit (bears m c o))
+pub one-slips : (limit : ℕ) (m : Market) (c : Single) (o : Order) (s : Option Machine) (b : Bool) → slips-after limit m c (standing (row (o .terms) s b)) ≡ writes (o .terms) limit s (bears m c (o .terms))
+one-slips limit m c o None false = sym (writes-none (o .terms) limit (bears m c (o .terms)))
 one-slips limit m c o None true = append-nil _
 one-slips limit m c o (Some s) b = append-nil _
 
 -- an order after a call that places none of its number
-pub stands-after : (su : Setup) (c : Single) (s : State) (r : Row) → of-number (number-of (r .order)) (s .rows) ≡ standing r → places (number-of (r .order)) (single c) ≡ false
-    → of-number (number-of (r .order)) (state-after su s c .rows) ≡ turn (su .limit) (s .market) c r
+pub stands-after : (su : Setup) (c : Single) (s : State) (r : Row) → of-number (r .terms .number) (s .rows) ≡ standing r → places (r .terms .number) (single c) ≡ false
+    → of-number (r .terms .number) (state-after su s c .rows) ≡ turn (su .limit) (s .market) c r
 stands-after su c s r h e =
-    kept-append (λ x. eqb (number-of (r .order)) (number-of (x .order))) (rows-after (su .limit) (s .market) c (s .rows)) (placed (su .limit) (s .market) c)
-    ∙ ap₂ _++_ (rows-stand (su .limit) (s .market) c r (s .rows) h) (placed-numbered (number-of (r .order)) (su .limit) (s .market) c e)
+    kept-append (λ x. eqb (r .terms .number) (x .terms .number)) (rows-after (su .limit) (s .market) c (s .rows)) (placed (su .limit) (s .market) c)
+    ∙ ap₂ _++_ (rows-stand (su .limit) (s .market) c r (s .rows) h) (placed-numbered (r .terms .number) (su .limit) (s .market) c e)
     ∙ append-nil _
 
 -- only a quote makes a machine write
@@ -285,8 +285,8 @@ quiet-days t limit s o (Some d) =
     [ true ↦ quiet-one t limit s (own-watched-day d) (quiet-day d) true | false ↦ quiet-one t limit s (own-traded-day o) (quiet-traded o) (eqb (o .share) (t .traded)) ]
 
 -- the slips of an order that stands as its machine says
-pub slips-one : (su : Setup) (c : Single) (s : State) (o : Order) (m : Option Machine) (b : Bool) → of-number (number-of o) (s .rows) ≡ standing (row o m b)
-    → slips-of (number-of o) (slips-in (granted-reply su s c)) ≡ writes (o .terms) (su .limit) m (bears (s .market) c o)
+pub slips-one : (su : Setup) (c : Single) (s : State) (o : Order) (m : Option Machine) (b : Bool) → of-number (number-of o) (s .rows) ≡ standing (row (o .terms) m b)
+    → slips-of (number-of o) (slips-in (granted-reply su s c)) ≡ writes (o .terms) (su .limit) m (bears (s .market) c (o .terms))
 slips-one su (listing h closes) s o m b e = refl
 slips-one su (opening d) s o m b e = quiet-days (o .terms) (su .limit) m d (day-of (opened d (s .market (d .share))))
 slips-one su (placing p) s o m b e = refl
@@ -307,20 +307,20 @@ first (r ∷ rs) = Some r
 row-first : (k : ℕ) (rs : List Row) → row-of k rs ≡ first (of-number k rs)
 row-first k [] = refl
 row-first k (r ∷ rs) =
-    elim (eqb k (number-of (r .order))) as (λ t. cond t (Some r) (row-of k rs) ≡ first (cond t (r ∷ of-number k rs) (of-number k rs))) [ true ↦ refl | false ↦ row-first k rs ]
+    elim (eqb k (r .terms .number)) as (λ t. cond t (Some r) (row-of k rs) ≡ first (cond t (r ∷ of-number k rs) (of-number k rs))) [ true ↦ refl | false ↦ row-first k rs ]
 
-pub claim-one : (o : Order) (s : Option Machine) (b : Bool) (rs : List Row) → of-number (number-of o) rs ≡ standing (row o s b) → holds claimable (row-of (number-of o) rs) ≡ (waits s && not b)
+pub claim-one : (o : Order) (s : Option Machine) (b : Bool) (rs : List Row) → of-number (number-of o) rs ≡ standing (row (o .terms) s b) → holds claimable (row-of (number-of o) rs) ≡ (waits s && not b)
 claim-one o s b rs h = ap (holds claimable) (row-first (number-of o) rs ∙ ap first h) ∙ go s b
   where
-    go : (s : Option Machine) (b : Bool) → holds claimable (first (standing (row o s b))) ≡ (waits s && not b)
+    go : (s : Option Machine) (b : Bool) → holds claimable (first (standing (row (o .terms) s b))) ≡ (waits s && not b)
     go None true = refl
     go None false = refl
     go (Some s) b = refl
 
-pub state-one : (o : Order) (s : Option Machine) (b : Bool) (rs : List Row) → of-number (number-of o) rs ≡ standing (row o s b) → state-in (row-of (number-of o) rs) ≡ state-of s b
+pub state-one : (o : Order) (s : Option Machine) (b : Bool) (rs : List Row) → of-number (number-of o) rs ≡ standing (row (o .terms) s b) → state-in (row-of (number-of o) rs) ≡ state-of s b
 state-one o s b rs h = ap state-in (row-first (number-of o) rs ∙ ap first h) ∙ go s b
   where
-    go : (s : Option Machine) (b : Bool) → state-in (first (standing (row o s b))) ≡ state-of s b
+    go : (s : Option Machine) (b : Bool) → state-in (first (standing (row (o .terms) s b))) ≡ state-of s b
     go None true = refl
     go None false = refl
     go (Some s) b = refl
@@ -329,13 +329,13 @@ not-twice : (b : Bool) → not (not b) ≡ b
 not-twice true = refl
 not-twice false = refl
 
-claim-here : (j : ℕ) (s : State) (o : Order) (m : Option Machine) (b : Bool) → of-number (number-of o) (s .rows) ≡ standing (row o m b) → (t : Bool) → eqb j (number-of o) ≡ t
-    → cond t (b || not (not (holds claimable (row-of j (s .rows))))) b ≡ cond t (b || claimable (row o m b)) b
+claim-here : (j : ℕ) (s : State) (o : Order) (m : Option Machine) (b : Bool) → of-number (number-of o) (s .rows) ≡ standing (row (o .terms) m b) → (t : Bool) → eqb j (number-of o) ≡ t
+    → cond t (b || not (not (holds claimable (row-of j (s .rows))))) b ≡ cond t (b || claimable (row (o .terms) m b)) b
 claim-here j s o m b h true g = ap (λ x. b || x) (not-twice _ ∙ ap (λ i. holds claimable (row-of i (s .rows))) (eqb-true j (number-of o) g) ∙ claim-one o m b (s .rows) h)
 claim-here j s o m b h false g = refl
 
-pub claim-granted : (su : Setup) (c : Single) (s : State) (o : Order) (m : Option Machine) (b : Bool) → of-number (number-of o) (s .rows) ≡ standing (row o m b)
-    → claimed-by (number-of o) (single c) (granted-reply su s c) b ≡ claimed-after c (row o m b)
+pub claim-granted : (su : Setup) (c : Single) (s : State) (o : Order) (m : Option Machine) (b : Bool) → of-number (number-of o) (s .rows) ≡ standing (row (o .terms) m b)
+    → claimed-by (number-of o) (single c) (granted-reply su s c) b ≡ claimed-after c (row (o .terms) m b)
 claim-granted su (listing i closes) s o m b h = refl
 claim-granted su (opening d) s o m b h = refl
 claim-granted su (placing p) s o m b h = refl

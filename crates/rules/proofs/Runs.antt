@@ -46,22 +46,22 @@ parted su (c ∷ cs) s (b ∷ bs) x later P h e =
 abbrev Writes-so : Setup → Order → List Call → Type 0
 Writes-so su o cs =
     (s : State) (m : Option Machine) (b : Bool) → Stands o s m b
-    → let xs : List Entry = span (number-of o) (trace su s cs) in written (number-of o) xs ≡ writes (o .terms) (su .limit) m (owns o (s .market) xs)
+    → let xs : List Entry = span (number-of o) (trace su s cs) in written (number-of o) xs ≡ writes (o .terms) (su .limit) m (owns (o .terms) (s .market) xs)
 
 follow-one : (su : Setup) (o : Order) (c : Call) (cs : List Call) → Writes-so su o cs → (s : State) (m : Option Machine) (b : Bool) → Stands o s m b
     → (p : Bool) → placed-in (number-of o) (entry c (step su s c .1)) ≡ p
     → let xs : List Entry = cond p [] (entry c (step su s c .1) ∷ span (number-of o) (trace su (step su s c .0) cs)) in
-    written (number-of o) xs ≡ writes (o .terms) (su .limit) m (owns o (s .market) xs)
+    written (number-of o) xs ≡ writes (o .terms) (su .limit) m (owns (o .terms) (s .market) xs)
 follow-one su o c cs ih s m b h true e = refl
 follow-one su o c cs ih s m b h false e =
     let t : Terms = o .terms in
     let r = step su s c .1 in
     let s′ : State = step su s c .0 in
     let xs : List Entry = span (number-of o) (trace su s′ cs) in
-    let es : List Own = own-by o (s .market) c r in
+    let es : List Own = own-by (o .terms) (s .market) c r in
     let k : Tracked (su .limit) o s m b s′ (entry c r) = tracks su o s c m b h e in
-    ap₂ _++_ (k .slips) (ih s′ (runs t (su .limit) m es) _ (k .stands) ∙ ap (λ y. writes t (su .limit) (runs t (su .limit) m es) (owns o y xs)) (market-tracked su s c))
-    ∙ sym (writes-append t (su .limit) m es (owns o (market-by c r (s .market)) xs))
+    ap₂ _++_ (k .slips) (ih s′ (runs t (su .limit) m es) _ (k .stands) ∙ ap (λ y. writes t (su .limit) (runs t (su .limit) m es) (owns (o .terms) y xs)) (market-tracked su s c))
+    ∙ sym (writes-append t (su .limit) m es (owns (o .terms) (market-by c r (s .market)) xs))
 
 pub follow : (su : Setup) (o : Order) (cs : List Call) → Writes-so su o cs
 follow su o [] s m b h = refl
@@ -69,7 +69,7 @@ follow su o (c ∷ cs) s m b h = follow-one su o c cs (follow su o cs) s m b h (
 
 -- the machine of an order over a run in which no other of its number is granted
 pub hold : (su : Setup) (o : Order) (cs : List Call) (s : State) (m : Option Machine) (b : Bool) → Stands o s m b → placed-among (number-of o) (trace su s cs) ≡ false
-    → Stands o (state-by su s cs) (runs (o .terms) (su .limit) m (owns o (s .market) (trace su s cs))) (claimed-from (number-of o) b (trace su s cs))
+    → Stands o (state-by su s cs) (runs (o .terms) (su .limit) m (owns (o .terms) (s .market) (trace su s cs))) (claimed-from (number-of o) b (trace su s cs))
 hold su o [] s m b h e = h
 hold su o (c ∷ cs) s m b h e =
     let t : Terms = o .terms in
@@ -77,12 +77,12 @@ hold su o (c ∷ cs) s m b h e =
     let r = step su s c .1 in
     let s′ : State = step su s c .0 in
     let xs : List Entry = trace su s′ cs in
-    let es : List Own = own-by o (s .market) c r in
+    let es : List Own = own-by (o .terms) (s .market) c r in
     let p = or-parts (placed-in k (entry c r)) (placed-among k xs) e in
     let y : Tracked (su .limit) o s m b s′ (entry c r) = tracks su o s c m b h (p .0) in
     hold su o cs s′ (runs t (su .limit) m es) (claimed-by k c r b) (y .stands) (p .1)
-    ∙ ap (λ z. standing (row o z (claimed-from k b (entry c r ∷ xs))))
-    (ap (λ z. runs t (su .limit) (runs t (su .limit) m es) (owns o z xs)) (market-tracked su s c) ∙ sym (runs-append t (su .limit) m es (owns o (market-by c r (s .market)) xs)))
+    ∙ ap (λ z. standing (row (o .terms) z (claimed-from k b (entry c r ∷ xs))))
+    (ap (λ z. runs t (su .limit) (runs t (su .limit) m es) (owns (o .terms) z xs)) (market-tracked su s c) ∙ sym (runs-append t (su .limit) m es (owns (o .terms) (market-by c r (s .market)) xs)))
 
 -- the market as it is read
 pub market-read : (su : Setup) (cs : List Call) (s : State) → state-by su s cs .market ≡ market-from (s .market) (trace su s cs)
@@ -105,10 +105,10 @@ module _ (su : Setup) (cs : List Call) (o : Order) (g : granted (step su (state-
       subst (λ m. Stands o then (runs (o .terms) (su .limit) (new-machine o) (begins m o)) false) (market-read su cs new) (granted-stands su (state-by su new cs) o g)
 
   writes-bearing : (xs : List Entry) → let m : Market = market-from unlisted (trace su new cs) in
-      writes (o .terms) (su .limit) first (owns o m xs) ≡ writes (o .terms) (su .limit) (new-machine o) (bearing (trace su new cs) o xs)
+      writes (o .terms) (su .limit) first (owns (o .terms) m xs) ≡ writes (o .terms) (su .limit) (new-machine o) (bearing (trace su new cs) o xs)
   writes-bearing xs =
       let m : Market = market-from unlisted (trace su new cs) in
-      let es : List Own = owns o m xs in
+      let es : List Own = owns (o .terms) m xs in
       sym (ap (λ ss. ss ++ writes (o .terms) (su .limit) first es) (quiet-first o (su .limit) m (day-of (m (o .terms .watched)))))
       ∙ sym (writes-append (o .terms) (su .limit) (new-machine o) (begins m o) es)
 
@@ -116,7 +116,7 @@ module _ (su : Setup) (cs : List Call) (o : Order) (g : granted (step su (state-
   slips-granted later =
       let xs : List Entry = span (number-of o) (trace su then later) in
       follow su o later then first false stands-then
-      ∙ ap (λ m. writes (o .terms) (su .limit) first (owns o m xs)) market-then
+      ∙ ap (λ m. writes (o .terms) (su .limit) first (owns (o .terms) m xs)) market-then
       ∙ writes-bearing xs
       ∙ writes-to-end (o .terms) (su .limit) (new-machine o) (bearing (trace su new cs) o xs)
 
@@ -126,5 +126,5 @@ module _ (su : Setup) (cs : List Call) (o : Order) (g : granted (step su (state-
       let xs : List Entry = trace su then between in
       let m : Market = market-from unlisted (trace su new cs) in
       hold su o between then first false stands-then e
-      ∙ ap (λ y. standing (row o y (claimed-from (number-of o) false xs)))
-      (ap (λ z. runs (o .terms) (su .limit) first (owns o z xs)) market-then ∙ sym (runs-append (o .terms) (su .limit) (new-machine o) (begins m o) (owns o m xs)))
+      ∙ ap (λ y. standing (row (o .terms) y (claimed-from (number-of o) false xs)))
+      (ap (λ z. runs (o .terms) (su .limit) first (owns (o .terms) z xs)) market-then ∙ sym (runs-append (o .terms) (su .limit) (new-machine o) (begins m o) (owns (o .terms) m xs)))

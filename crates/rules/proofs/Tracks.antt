@@ -22,16 +22,16 @@ use Rattle.rules.proofs.Numbered.{row, of-number, writes-append, runs-append, 
 
 -- the order stands in the book as its machine says, or has left
 abbrev pub Stands : Order → State → Option Machine → Bool → Type 0
-Stands o s m b = of-number (number-of o) (s .rows) ≡ standing (row o m b)
+Stands o s m b = of-number (number-of o) (s .rows) ≡ standing (row (o .terms) m b)
 
 stands-on : (su : Setup) (o : Order) (c : Single) (s : State) (m : Option Machine) (b : Bool) → Stands o s m b → places (number-of o) (single c) ≡ false
-    → Stands o (state-after su s c) (runs (o .terms) (su .limit) m (bears (s .market) c o)) (row-after (su .limit) (s .market) c (row o m b) .claimed)
-stands-on su o c s m b h e = stands-after su c s (row o m b) h e
+    → Stands o (state-after su s c) (runs (o .terms) (su .limit) m (bears (s .market) c (o .terms))) (row-after (su .limit) (s .market) c (row (o .terms) m b) .claimed)
+stands-on su o c s m b h e = stands-after su c s (row (o .terms) m b) h e
 
 -- the reading of a call that led from s to s′
 pub record Tracked (limit : ℕ) (o : Order) (s : State) (m : Option Machine) (b : Bool) (s′ : State) (x : Entry) : Type 0 where
-  pub slips : slips-of (number-of o) (slips-in (x .reply)) ≡ writes (o .terms) limit m (own-by o (s .market) (x .call) (x .reply))
-  pub stands : Stands o s′ (runs (o .terms) limit m (own-by o (s .market) (x .call) (x .reply))) (claimed-by (number-of o) (x .call) (x .reply) b)
+  pub slips : slips-of (number-of o) (slips-in (x .reply)) ≡ writes (o .terms) limit m (own-by (o .terms) (s .market) (x .call) (x .reply))
+  pub stands : Stands o s′ (runs (o .terms) limit m (own-by (o .terms) (s .market) (x .call) (x .reply))) (claimed-by (number-of o) (x .call) (x .reply) b)
 
 pub granted-is : (su : Setup) (s : State) (c : Single) → granted (granted-reply su s c) ≡ true
 granted-is su s (listing h closes) = refl
@@ -43,8 +43,8 @@ granted-is su s (claiming j) = refl
 granted-is su s (settling t f) = refl
 granted-is su s (asking j) = refl
 
-own-granted : (su : Setup) (s : State) (c : Single) (o : Order) → bears (s .market) c o ≡ own-by o (s .market) (single c) (granted-reply su s c)
-own-granted su s c o = ap (λ b. cond b (bears (s .market) c o) []) (sym (granted-is su s c))
+own-granted : (su : Setup) (s : State) (c : Single) (o : Order) → bears (s .market) c (o .terms) ≡ own-by (o .terms) (s .market) (single c) (granted-reply su s c)
+own-granted su s c o = ap (λ b. cond b (bears (s .market) c (o .terms)) []) (sym (granted-is su s c))
 
 tracks-granted : (su : Setup) (o : Order) (s : State) (c : Single) (m : Option Machine) (b : Bool) → Stands o s m b → placed-in (number-of o) (entry (single c) (granted-reply su s c)) ≡ false
     → Tracked (su .limit) o s m b (state-after su s c) (entry (single c) (granted-reply su s c))
@@ -53,7 +53,7 @@ tracks-granted su o s c m b h e =
       slips = slips-one su c s o m b h ∙ ap (writes (o .terms) (su .limit) m) (own-granted su s c o);
       stands =
           stands-on su o c s m b h (sym (ap (λ g. g && places (number-of o) (single c)) (granted-is su s c)) ∙ e)
-          ∙ ap₂ (λ es x. standing (row o (runs (o .terms) (su .limit) m es) x)) (own-granted su s c o) (sym (claim-granted su c s o m b h));
+          ∙ ap₂ (λ es x. standing (row (o .terms) (runs (o .terms) (su .limit) m es) x)) (own-granted su s c o) (sym (claim-granted su c s o m b h));
     }
 
 claim-refused : (k : ℕ) (c : Single) (f : Refusal) (b : Bool) → b ≡ claimed-by k (single c) (refused f) b
@@ -73,7 +73,7 @@ claim-refused k (asking j) f b = refl
 
 tracks-refused : (su : Setup) (o : Order) (s : State) (c : Single) (m : Option Machine) (b : Bool) (f : Refusal) → Stands o s m b
     → Tracked (su .limit) o s m b s (entry (single c) (refused f))
-tracks-refused su o s c m b f h = record { slips = refl; stands = h ∙ ap (λ x. standing (row o m x)) (claim-refused (number-of o) c f b) }
+tracks-refused su o s c m b f h = record { slips = refl; stands = h ∙ ap (λ x. standing (row (o .terms) m x)) (claim-refused (number-of o) c f b) }
 
 -- a burst
 record Bursted (limit : ℕ) (o : Order) (m : Option Machine) (b : Bool) (qs : List Quote) (x : Burst) : Type 0 where
@@ -93,7 +93,7 @@ tracks-burst su o (q ∷ qs) n s m b h =
     elim (first-fault (quote-call-checks s q n)) as (λ y. Bursted (su .limit) o m b (q ∷ qs) (one-more y s ss x)) [
       | None ↦ record {
         slips = kept-append (λ y. eqb (number-of o) (y .number)) ss (x .slips) ∙ ap₂ _++_ (slips-one su (quoting q n) s o m b h) (ih .slips) ∙ sym (writes-append t (su .limit) m (own-quotes t q) es);
-        stands = ih .stands ∙ ap (λ y. standing (row o y b)) (sym (runs-append t (su .limit) m (own-quotes t q) es));
+        stands = ih .stands ∙ ap (λ y. standing (row (o .terms) y b)) (sym (runs-append t (su .limit) m (own-quotes t q) es));
       }
       | Some k ↦ record { slips = refl; stands = h }
     ]

@@ -6,7 +6,7 @@ use Rattle.std.specs.declared.option.Option.{Option}
 use Rattle.std.specs.declared.option.Option.the-variants.{Some, None}
 use Rattle.conditions.specs.declared.event.Day.{Day}
 use Rattle.rules.specs.Calls.{Single, listing, opening, placing, quoting, cancelling, claiming, settling, asking}
-use Rattle.rules.specs.Machine.{Order, number-of}
+use Rattle.rules.specs.Machine.{Order}
 use Rattle.rules.specs.Market.{Market, day-of, prices-of, opened}
 use Rattle.rules.specs.OwnEvents.{Own, own-placing, own-watched-day, own-traded-day, own-quote, own-settlement, own-cancel}
 use Rattle.rules.specs.declared.opening.Opening.{Opening}
@@ -22,15 +22,15 @@ abbrev pub own-quotes : Terms → Quote → List Own
 own-quotes t q = cond (eqb (q .share) (t .watched) || eqb (q .share) (t .traded)) (own-quote q ∷ []) []
 
 -- the own events that a call is for an order that stands, in the market as it was before the call
-abbrev pub bears : Market → Single → Order → List Own
-bears m (listing h closes) o = []
-bears m (opening d) o = own-days (o .terms) d (day-of (opened d (m (d .share))))
-bears m (placing p) o = []
-bears m (quoting q places) o = own-quotes (o .terms) q
-bears m (cancelling k) o = cond (eqb k (number-of o)) (own-cancel ∷ []) []
-bears m (claiming k) o = []
-bears m (settling t fill) o = cond (eqb (t .number) (number-of o)) (own-settlement fill ∷ []) []
-bears m (asking k) o = []
+abbrev pub bears : Market → Single → Terms → List Own
+bears m (listing h closes) t = []
+bears m (opening d) t = own-days t d (day-of (opened d (m (d .share))))
+bears m (placing o) t = []
+bears m (quoting q places) t = own-quotes t q
+bears m (cancelling k) t = cond (eqb k (t .number)) (own-cancel ∷ []) []
+bears m (claiming k) t = []
+bears m (settling ticket fill) t = cond (eqb (ticket .number) (t .number)) (own-settlement fill ∷ []) []
+bears m (asking k) t = []
 
 -- the own event that its placing is for the order itself
 abbrev pub own-first : Market → Order → Option Day → List Own

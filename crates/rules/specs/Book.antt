@@ -17,13 +17,14 @@ use Rattle.rules.specs.Bearing.{bears, begins}
 use Rattle.rules.specs.Bounds.{continuous, greatest-quantity, greatest-total, greatest-rows}
 use Rattle.rules.specs.Calls.{Ticket, Single, listing, opening, placing, quoting, cancelling, claiming, settling, asking, Call, single, burst, Refusal, by-market, by-book, Reply, done, wrote, burst-wrote, gives, in-state, refused}
 use Rattle.rules.specs.Checks.{Check, check, first-fault, under}
-use Rattle.rules.specs.Machine.{Order, number-of, Machine, writes, runs, new-machine}
+use Rattle.rules.specs.Machine.{Order, Machine, writes, runs, new-machine}
 use Rattle.rules.specs.Market.{Market, unlisted, put, day-of, listed, opened, taken, share-checks, list-checks, day-checks, quote-checks}
 use Rattle.rules.specs.Numbers.{choice-number, choice-of}
 use Rattle.rules.specs.declared.fault.MarketFault.the-variants as market
 use Rattle.rules.specs.declared.fault.PlacingFault.{PlacingFault}
 use Rattle.rules.specs.declared.fault.PlacingFault.the-variants as fault
 use Rattle.rules.specs.declared.order.PriceChoice.the-variants as choice
+use Rattle.rules.specs.declared.order.Terms.{Terms}
 use Rattle.rules.specs.declared.quote.Quote.{Quote}
 use Rattle.rules.specs.declared.slip.Slip.{Slip}
 use Rattle.rules.specs.declared.state.OrderState.{OrderState}
@@ -35,9 +36,9 @@ pub record Setup : Type 0 where
   pub limit : ℕ
   pub book : ℕ
 
--- an order that stands: its machine, none once it has ended under a claim, and whether it is under one
+-- an order that stands: its terms, its machine, none once it has ended under a claim, and whether it is under one
 pub record Row : Type 0 where
-  pub order : Order
+  pub terms : Terms
   pub machine : Option Machine
   pub claimed : Bool
 
@@ -52,7 +53,7 @@ new = record { market = unlisted; rows = [] }
 -- the row of an order by its number, if it stands in the book
 abbrev pub row-of : ℕ → List Row → Option Row
 row-of k [] = None
-row-of k (r ∷ rs) = cond (eqb k (number-of (r .order))) (Some r) (row-of k rs)
+row-of k (r ∷ rs) = cond (eqb k (r .terms .number)) (Some r) (row-of k rs)
 
 -- a test of a row that may not be there
 abbrev pub holds : (Row → Bool) → Option Row → Bool
@@ -73,7 +74,7 @@ abbrev pub claimable : Row → Bool
 claimable r = waits (r .machine) && not (r .claimed)
 
 abbrev pub watches-share : ℕ → Row → Bool
-watches-share h r = eqb h (r .order .terms .watched) && watches (r .machine)
+watches-share h r = eqb h (r .terms .watched) && watches (r .machine)
 
 -- how an order stands; none for one that has ended and left, or was never placed
 abbrev pub state-of : Option Machine → Bool → Option OrderState
@@ -158,16 +159,16 @@ claimed-after (opening d) r = r .claimed
 claimed-after (placing o) r = r .claimed
 claimed-after (quoting q places) r = r .claimed
 claimed-after (cancelling k) r = r .claimed
-claimed-after (claiming k) r = cond (eqb k (number-of (r .order))) (r .claimed || claimable r) (r .claimed)
-claimed-after (settling t fill) r = cond (eqb (t .number) (number-of (r .order))) false (r .claimed)
+claimed-after (claiming k) r = cond (eqb k (r .terms .number)) (r .claimed || claimable r) (r .claimed)
+claimed-after (settling t fill) r = cond (eqb (t .number) (r .terms .number)) false (r .claimed)
 claimed-after (asking k) r = r .claimed
 
 -- an order after a call: its machine is fed its own events
 abbrev pub row-after : ℕ → Market → Single → Row → Row
 row-after limit m c r =
     record {
-      order = r .order;
-      machine = runs (r .order .terms) limit (r .machine) (bears m c (r .order));
+      terms = r .terms;
+      machine = runs (r .terms) limit (r .machine) (bears m c (r .terms));
       claimed = claimed-after c r;
     }
 
@@ -194,7 +195,7 @@ meant-by (asking k) = nobody
 -- the row of an order by its number is turned, and the others stay as they are; no two orders in a book bear one number
 abbrev pub on-row : ℕ → (Row → List Row) → List Row → List Row
 on-row k turn [] = []
-on-row k turn (r ∷ rs) = cond (eqb k (number-of (r .order))) (turn r ++ rs) (r ∷ on-row k turn rs)
+on-row k turn (r ∷ rs) = cond (eqb k (r .terms .number)) (turn r ++ rs) (r ∷ on-row k turn rs)
 
 abbrev pub turned : Meant → (Row → List Row) → List Row → List Row
 turned nobody turn rows = rows
@@ -206,13 +207,13 @@ rows-after limit m c rows = turned (meant-by c) (λ r. standing (row-after limit
 
 -- the slips that the machines write, in order of placing
 abbrev pub slips-after : ℕ → Market → Single → List Row → List Slip
-slips-after limit m c rows = joined (λ r. writes (r .order .terms) limit (r .machine) (bears m c (r .order))) rows
+slips-after limit m c rows = joined (λ r. writes (r .terms) limit (r .machine) (bears m c (r .terms))) rows
 
 -- the row of an order that is placed
 abbrev pub placed : ℕ → Market → Single → List Row
 placed limit m (listing h closes) = []
 placed limit m (opening d) = []
-placed limit m (placing o) = record { order = o; machine = runs (o .terms) limit (new-machine o) (begins m o); claimed = false } ∷ []
+placed limit m (placing o) = record { terms = o .terms; machine = runs (o .terms) limit (new-machine o) (begins m o); claimed = false } ∷ []
 placed limit m (quoting q places) = []
 placed limit m (cancelling k) = []
 placed limit m (claiming k) = []

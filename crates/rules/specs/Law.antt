@@ -140,7 +140,7 @@ abbrev pub Cut-anywhere : Type 0
 Cut-anywhere =
     (su : Setup) (s : State) (ps qs : List Quote) (places : ℕ) → let b = bursts su s ps places in bursts su s (ps ++ qs) places ≡ continued su places b (b .fault) qs
 
--- 12. What a machine notes of its slips: the quantities of those that were sent, and the market price of the newest.
+-- 12. What a machine notes of its slips: where a total is allowed the quantities of those that were sent, and the market price of the newest.
 abbrev pub newest-market : Option Price → List Slip → Option Price
 newest-market p [] = p
 newest-market p (s ∷ slips) = newest-market (Some (s .market)) slips
@@ -149,7 +149,7 @@ abbrev pub Notes-of-slips : Type 0
 Notes-of-slips =
     (o : Order) (limit : ℕ) (es : List Own) (s : Machine) → runs (o .terms) limit (new-machine o) es ≡ Some s
     → let slips : List Slip = writes (o .terms) limit (new-machine o) es in
-    (s .notes .sent ≡ sent-in slips) × (s .notes .market ≡ newest-market None slips)
+    ((o .terms .total ≡ 0 → ⊥) → s .notes .sent ≡ sent-in slips) × (s .notes .market ≡ newest-market None slips)
 
 -- 13. Who waits is told nothing: until its settlement an order that waits writes no slip.
 abbrev pub Unsettled : List Own → Type 0
@@ -182,4 +182,4 @@ No-sum-lost = (closes days : List Price) (n : ℕ) → n ≤ closes-kept → new
 
 -- 16. No two orders in a book bear one number.
 abbrev pub One-of-a-number : Type 0
-One-of-a-number = (su : Setup) (cs : List Call) (k : ℕ) → countBy (λ r. eqb k (number-of (r .order))) (state-by su new cs .rows) ≤ 1
+One-of-a-number = (su : Setup) (cs : List Call) (k : ℕ) → countBy (λ r. eqb k (r .terms .number)) (state-by su new cs .rows) ≤ 1

@@ -35,7 +35,7 @@ pub record Order : Type 0 where
 abbrev pub number-of : Order → ℕ
 number-of o = o .terms .number
 
--- What is kept of the order's slips, the quantities of those that were sent and the market price of the newest,
+-- What is kept of the order's slips, the quantities of those that were sent, where a total is allowed, and the market price of the newest,
 -- and the traded share's prices of the day.
 pub record Notes : Type 0 where
   pub sent : ℕ
@@ -73,15 +73,15 @@ priced-now prices n = record { sent = n .sent; market = n .market; prices = pric
 abbrev pub with-prices : Option Levels → Machine → Machine
 with-prices prices s = record { meaning = s .meaning; waits = s .waits; notes = priced-now prices (s .notes) }
 
--- the notes once a slip was written
-abbrev pub sent-with : Outcome → ℕ → ℕ → ℕ
-sent-with outcome.Sent quantity sent = sent + quantity
-sent-with outcome.Withheld quantity sent = sent
-sent-with outcome.Unpriced quantity sent = sent
-sent-with outcome.Exceeded quantity sent = sent
+-- the notes once a slip was written; quantities are counted where the order allows a total
+abbrev pub sent-with : Terms → Outcome → ℕ → ℕ
+sent-with t outcome.Sent sent = cond (eqb (t .total) 0) sent (sent + t .quantity)
+sent-with t outcome.Withheld sent = sent
+sent-with t outcome.Unpriced sent = sent
+sent-with t outcome.Exceeded sent = sent
 
 abbrev pub noted : Terms → Outcome → Tick → Notes → Notes
-noted t o k n = record { sent = sent-with o (t .quantity) (n .sent); market = Some (k .price); prices = n .prices }
+noted t o k n = record { sent = sent-with t o (n .sent); market = Some (k .price); prices = n .prices }
 
 -- What follows a fire with its outcome, where m and n are meaning and notes after it: over and an exceeded total end the order;
 -- if settlement is awaited it waits for that of a slip that was sent, and any other is settled at the market price at once.

@@ -17,8 +17,8 @@ claimed-with (burst qs n) x r = r .claimed
 abbrev pub row-with : ℕ → Market → Entry → Row → Row
 row-with limit m x r =
     record {
-      order = r .order;
-      machine = runs (r .order .terms) limit (r .machine) (own-by (r .order) m (x .call) (x .reply));
+      terms = r .terms;
+      machine = runs (r .terms) limit (r .machine) (own-by (r .terms) m (x .call) (x .reply));
       claimed = claimed-with (x .call) (x .reply) r;
     }
 

@@ -13,6 +13,7 @@ use Rattle.rules.specs.Calls.{listing, opening, placing, quoting, cancelling, 
 use Rattle.rules.specs.Machine.{Order, number-of, to-end, new-machine}
 use Rattle.rules.specs.Market.{Market, unlisted, put, taken}
 use Rattle.rules.specs.OwnEvents.{Own}
+use Rattle.rules.specs.declared.order.Terms.{Terms}
 use Rattle.rules.specs.declared.quote.Quote.{Quote}
 use Rattle.rules.specs.declared.slip.Slip.{Slip}
 
@@ -83,13 +84,13 @@ market-from m (x ∷ xs) = market-from (market-by (x .call) (x .reply) m) xs
 
 -- An order's own events, in the market as it was when they came.
 
-abbrev pub own-by : Order → Market → Call → Reply → List Own
-own-by o m (single c) r = cond (granted r) (bears m c o) []
-own-by o m (burst qs places) r = joined (own-quotes (o .terms)) (take (taken-in r) qs)
+abbrev pub own-by : Terms → Market → Call → Reply → List Own
+own-by t m (single c) r = cond (granted r) (bears m c t) []
+own-by t m (burst qs places) r = joined (own-quotes t) (take (taken-in r) qs)
 
-abbrev pub owns : Order → Market → List Entry → List Own
-owns o m [] = []
-owns o m (x ∷ xs) = own-by o m (x .call) (x .reply) ++ owns o (market-by (x .call) (x .reply) m) xs
+abbrev pub owns : Terms → Market → List Entry → List Own
+owns t m [] = []
+owns t m (x ∷ xs) = own-by t m (x .call) (x .reply) ++ owns t (market-by (x .call) (x .reply) m) xs
 
 -- its placing, let through
 abbrev pub places : ℕ → Call → Bool
@@ -118,7 +119,7 @@ span k (x ∷ xs) = cond (placed-in k x) [] (x ∷ span k xs)
 
 -- what bears on an order that was placed between two parts of a trace, the later part read as far as given
 abbrev pub bearing : List Entry → Order → List Entry → List Own
-bearing before o later = begins (market-from unlisted before) o ++ owns o (market-from unlisted before) later
+bearing before o later = begins (market-from unlisted before) o ++ owns (o .terms) (market-from unlisted before) later
 
 -- its own events: they end with the order, and before a next one bears its number
 abbrev pub own-events : ℕ → List Entry → Order → List Entry → List Own
