@@ -3,13 +3,14 @@ ghost use mathlib.Core.Path.{_≡_};
 ghost use Rattle.std.specs.Results.{errPart, okPart};
 ghost use Rattle.std.specs.declared.option.Option.the-variants.{None};
 ghost use Rattle.rules.specs.Checks.{first-fault};
-ghost use Rattle.rules.specs.Market.{put, unlisted, opened, taken, day-of, latest-of, share-checks, list-checks, day-checks, quote-checks};
+ghost use Rattle.rules.specs.Market.{put, unlisted, opened, taken, day-of, prices-of, share-checks, list-checks, day-checks, quote-checks};
 ghost use Rattle.market.specs.Asking.{newly, when-granted};
 ghost use Rattle.market.specs.View.{market-of};
 use crate::share::Share;
 use conditions::event::Day;
 use rules::fault::MarketFault;
 use rules::opening::Opening;
+use rules::quote::Levels;
 use rules::quote::Quote;
 
 // Shares are numbered from 0.
@@ -106,13 +107,13 @@ impl Market {
         self.shares[share as usize].day()
     }
 
-    // The latest quote of the share's day.
-    pub fn latest_of(&self, share: u8) -> Option<Quote>
-        ensures { λ r. ⌜ r ≡ latest-of (market-of (now (self .entry) .shares) share) ⌝ }
+    // The prices of the latest quote of the share's day.
+    pub fn prices_of(&self, share: u8) -> Option<Levels>
+        ensures { λ r. ⌜ r ≡ prices-of (market-of (now (self .entry) .shares) share) ⌝ }
     {
         if share > GREATEST_SHARE {
             return None;
         }
-        self.shares[share as usize].latest()
+        self.shares[share as usize].prices()
     }
 }

@@ -1,7 +1,9 @@
-// Worked prices and edges of the checked numbers, the kinds and the layers, as tests. They stand apart from the crates
+// Worked prices and edges of the checked numbers, the kinds, the layers and the desks, as tests. They stand apart from the crates
 // that they try, since a crate with tests is proved twice.
 #[cfg(test)]
 mod decimals;
+#[cfg(test)]
+mod desks;
 #[cfg(test)]
 mod help;
 #[cfg(test)]

@@ -1,12 +1,12 @@
 ghost use mathlib.Core.Path.{_≡_};
 ghost use Rattle.std.specs.Results.{errPart};
-ghost use Rattle.rules.specs.Market.{day-of, latest-of};
+ghost use Rattle.rules.specs.Market.{day-of, prices-of};
 ghost use Rattle.market.specs.Asking.{listed-refusal};
 ghost use Rattle.market.specs.View.{share-view};
 use crate::share::Share;
 use conditions::event::Day;
 use rules::fault::MarketFault;
-use rules::quote::Quote;
+use rules::quote::Levels;
 
 impl Share {
     pub fn check_listed(&self) -> Result<(), MarketFault>
@@ -25,9 +25,16 @@ impl Share {
         if self.listed { self.day } else { None }
     }
 
-    pub fn latest(&self) -> Option<Quote>
-        ensures { λ r. ⌜ r ≡ latest-of (share-view (now (self .entry))) ⌝ }
+    // The latest quote's prices.
+    pub fn prices(&self) -> Option<Levels>
+        ensures { λ r. ⌜ r ≡ prices-of (share-view (now (self .entry))) ⌝ }
     {
-        if self.listed { self.latest } else { None }
+        if !self.listed {
+            return None;
+        }
+        match self.latest {
+            Some(quote) => Some(quote.levels),
+            None => None,
+        }
     }
 }

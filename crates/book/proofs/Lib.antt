@@ -1,0 +1,13 @@
+pub mod Bearing
+pub mod Bursts
+pub mod ByNumber
+pub mod Carrying
+pub mod Few
+pub mod Firing
+pub mod Listed
+pub mod Machines
+pub mod Moves
+pub mod Passing
+pub mod Placed
+pub mod Places
+pub mod Quoted

@@ -1,0 +1,4 @@
+pub mod Carrying
+pub mod Placing
+pub mod Turning
+pub mod View
