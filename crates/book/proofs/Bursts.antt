@@ -130,11 +130,11 @@ module _ {su₀ su : Setup} {qs : List Quote} {s₀ s : State} {ps ss : List Sli
           within = omega (arith, few, tail-length, v);
           counted = omega (arith, p .counted);
           onwards =
-            ap (λ z. onward (k + 1) z (bursts su₀ s₂ (drop (i + 1) qs) (length ps - (w + m)))) g
-            ∙ ap₂ (λ y z. onward (k + 1) (take w ss ++ f) (bursts su₀ y (drop (i + 1) qs) z)) (b .1) x
-            ∙ onward-more k (take w ss) f s further
-            ∙ sym (ap (onward k (take w ss)) (at-quote ∙ ap (λ y. one-more y s f further) (b .0)))
-            ∙ p .onwards;
+              ap (λ z. onward (k + 1) z (bursts su₀ s₂ (drop (i + 1) qs) (length ps - (w + m)))) g
+              ∙ ap₂ (λ y z. onward (k + 1) (take w ss ++ f) (bursts su₀ y (drop (i + 1) qs) z)) (b .1) x
+              ∙ onward-more k (take w ss) f s further
+              ∙ sym (ap (onward k (take w ss)) (at-quote ∙ ap (λ y. one-more y s f further) (b .0)))
+              ∙ p .onwards;
           rest = ap (drop (w + m)) t ∙ drop-at (take w ss ++ take m ys) (drop m ys) (w + m) u ∙ back ∙ ap (drop m) (tail-is ∙ p .rest) ∙ drop-drop m w ps;
           setup = same ∙ p .setup;
         }

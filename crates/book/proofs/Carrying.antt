@@ -21,12 +21,12 @@ carried su s s′ c r e =
     record {
       is-step = e;
       extends = λ cs h.
-        let at : step su s c ≡ step su (state-by su new cs) c = ap (λ x. step su x c) h in
-        let told : trace su new (cs ++ c ∷ []) ≡ trace su new cs ++ entry c r ∷ [] =
+          let at : step su s c ≡ step su (state-by su new cs) c = ap (λ x. step su x c) h in
+          let told : trace su new (cs ++ c ∷ []) ≡ trace su new cs ++ entry c r ∷ [] =
           trace-more su new cs c ∙ ap (λ x. trace su new cs ++ entry c (x .1) ∷ []) (sym (e ∙ at)) in
-        record {
-          leaves = ap (λ x. x .0) (e ∙ at) ∙ sym (state-more su new cs c);
-          answers = told;
-          lawful = subst (Lawful su) told (lawful su (cs ++ c ∷ []));
-        };
+          record {
+            leaves = ap (λ x. x .0) (e ∙ at) ∙ sym (state-more su new cs c);
+            answers = told;
+            lawful = subst (Lawful su) told (lawful su (cs ++ c ∷ []));
+          };
     }

@@ -80,18 +80,19 @@ module _ {C : Type 0} (means : C → Meaning) (mk : Market) (share limit : ℕ) 
       ∙ ap (λ x. answered (r .terms) limit (means (r .condition) [] (event.Tick k)) x (notes-of mk r) k) em
       ∙ sym
       (ap (λ b. left-in b (r .terms) limit k (r .state) (means (r .condition)) (notes-of mk r)) (w .0)
-        ∙ ap (λ s. left-in true (r .terms) limit k s (means (r .condition)) (notes-of mk r)) (w .1))
+      ∙ ap (λ s. left-in true (r .terms) limit k s (means (r .condition)) (notes-of mk r)) (w .1))
 
   pub moved : (stays : Bool) (z : Row C) (slips : List Slip) (a : Answer) (m : Meaning) → true ≡ watches-share share (row-view means mk r) → a ≡ means (r .condition) [] (event.Tick k)
       → m ≡ after (means (r .condition)) (event.Tick k ∷ []) → z .terms ≡ r .terms → claimed-in (z .state) ≡ false
       → cond stays (row-view means mk z .machine) None ≡ answered (r .terms) limit a m (notes-of mk r) k .machine → slips ≡ answered (r .terms) limit a m (notes-of mk r) k .slips → Ticked stays z slips
   moved stays z slips a m e ea em t u hm hs =
-      let l = left-answered a m e ea em in
-      (kept-in stays (z .state) (z .terms) (means (z .condition)) (notes-of mk z) u
-        ∙ ap (λ x. standing (record { terms = x; machine = cond stays (row-view means mk z .machine) None; claimed = false })) t
-        ∙ ap (λ x. standing (record { terms = r .terms; machine = x; claimed = false })) (hm ∙ ap (λ x. x .machine) l)
-        ∙ ap (λ s. standing (record { terms = r .terms; machine = ticked-left share limit k (row-view means mk r) .machine; claimed = claimed-in s })) (sym (watching-row means mk share r e .1)),
-      hs ∙ ap (λ x. x .slips) l)
+      let l = left-answered a m e ea em in (
+        kept-in stays (z .state) (z .terms) (means (z .condition)) (notes-of mk z) u
+            ∙ ap (λ x. standing (record { terms = x; machine = cond stays (row-view means mk z .machine) None; claimed = false })) t
+            ∙ ap (λ x. standing (record { terms = r .terms; machine = x; claimed = false })) (hm ∙ ap (λ x. x .machine) l)
+            ∙ ap (λ s. standing (record { terms = r .terms; machine = ticked-left share limit k (row-view means mk r) .machine; claimed = claimed-in s })) (sym (watching-row means mk share r e .1)),
+        hs ∙ ap (λ x. x .slips) l,
+      )
 
   -- the condition waits, and is x after the tick
   pub waited : (x : C) → true ≡ watches-share share (row-view means mk r) → answer.Wait ≡ means (r .condition) [] (event.Tick k) → means x ≡ after (means (r .condition)) (event.Tick k ∷ [])

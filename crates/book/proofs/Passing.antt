@@ -58,13 +58,14 @@ module _ {X R : Type 0} {f : X → R} {turn : R → List R} {xs ys : List X} {k 
       record {
         behind = at-most b k k′ i next (t .behind);
         table =
-          ap (λ z. map f z ++ joined turn (map f (drop (i + 1) ys′))) p
+            ap (λ z. map f z ++ joined turn (map f (drop (i + 1) ys′))) p
             ∙ ap (λ z. map f (take k ys ++ cond b (r ∷ []) []) ++ joined turn (map f z)) same
             ∙ ap (λ z. z ++ rs) (map-append f (take k ys) (cond b (r ∷ []) []))
             ∙ append-assoc (map f (take k ys)) (map f (cond b (r ∷ []) [])) rs
             ∙ ap (λ z. map f (take k ys) ++ (z ++ rs)) (map-kept f b r ∙ row-is)
             ∙ sym (ap (λ z. map f (take k ys) ++ z) (joined-from f turn ys i d h))
-            ∙ t .table }
+            ∙ t .table;
+      }
 
   -- all are told
   pub turned-all : Turned f turn xs ys k i → length ys ≤ i → map f (take k ys) ≡ joined turn (map f xs)
@@ -112,7 +113,8 @@ module _ {X R S : Type 0} {f : X → R} {turn : R → List R} {write : R → Lis
         rows = turned-more ys′ k′ d r b (p .rows) h row-is keep-next front back;
         room = rw (next, same) (room-from d new p h new-is);
         slips = ap (λ z. z ++ joined write (map f (drop (i + 1) ys′))) written ∙ append-assoc (take w qs) new (joined write (map f (drop (i + 1) ys′))) ∙ ap (λ z. take w qs ++ z) all ∙ p .slips;
-        rest = rest-is ∙ further w w′ (length new) qs ps next (p .rest) }
+        rest = rest-is ∙ further w w′ (length new) qs ps next (p .rest);
+      }
 
   -- the pass is over
   pub passing-all : Passing f turn write xs ys ps qs k w i → length ys ≤ i → length qs ≡ length ps → Passed f turn write xs ys ps qs k w
@@ -122,4 +124,5 @@ module _ {X R S : Type 0} {f : X → R} {turn : R → List R} {write : R → Lis
       record {
         table = turned-all (p .rows) h;
         written = sym l ∙ ap length t;
-        slips = sym (take-append-drop w qs) ∙ ap (λ z. z ++ drop w qs) t ∙ ap (λ z. joined write (map f xs) ++ z) (p .rest) }
+        slips = sym (take-append-drop w qs) ∙ ap (λ z. z ++ drop w qs) t ∙ ap (λ z. joined write (map f xs) ++ z) (p .rest);
+      }

@@ -143,7 +143,7 @@ module _ (su : Setup) (s : State) (o : Order) where
     pub granted : (rows : List Row) → ends (o .meaning [] (event.Day d)) ≡ false → rows ≡ s .rows ++ begun (s .market) o d ∷ [] → (record { market = s .market; rows = rows }, done) ≡ step su s (single (placing o))
     granted rows h e =
         let starts : runs (o .terms) (su .limit) (new-machine o) (begins (s .market) o) ≡ begun (s .market) o d .machine =
-          ap (λ z. runs (o .terms) (su .limit) (new-machine o) (own-first (s .market) o z)) is ∙ ap (λ z. cond z None (begun (s .market) o d .machine)) h in
+        ap (λ z. runs (o .terms) (su .limit) (new-machine o) (own-first (s .market) o z)) is ∙ ap (λ z. cond z None (begun (s .market) o d .machine)) h in
         ap (λ z. (record { market = s .market; rows = z }, done)) (e ∙ ap (λ z. s .rows ++ record { terms = o .terms; machine = z; claimed = false } ∷ []) (sym starts)) ∙ sym (at-last false h)
 
 -- The new row, told its day.

@@ -150,9 +150,10 @@ module _ {C : Type 0} (means : C → Meaning) (su : Setup) (mk mk₂ : Market) (
     pub quote-ticked : (ys : List (Row C)) (w : ℕ) (places rest : List Slip) → rows-view means mk₂ ys ≡ ticked-rows (q .share) (su .limit) k (rows-view means mk₂ told) → w ≡ length written → places ≡ written ++ rest
         → ((record { market = mk₂; rows = rows-view means mk₂ ys }, wrote (take w places)) ≡ step su before (single (quoting q n))) × (w ≤ n) × (drop w places ≡ rest)
     quote-ticked ys w places rest rows long filled =
-        let known = quote-known mk q pass in
-        (ap₂ (λ a b. (record { market = mk₂; rows = a }, wrote b)) rows (ap (take w) filled ∙ take-at written rest w (sym long))
-          ∙ ap₂ (λ m z. (record { market = m; rows = ticked-rows (q .share) (su .limit) k (rows-view means m z) }, wrote (ticked-slips (q .share) (su .limit) k (rows-view means m z)))) after same
-          ∙ granted _ _ (sym (quote-rows means mk q (su .limit) n known k (sym some) xs)) (sym (quote-slips means mk q (su .limit) n known k (sym some) xs)),
-        tick-count w long,
-        ap (drop w) filled ∙ drop-at written rest w (sym long))
+        let known = quote-known mk q pass in (
+          ap₂ (λ a b. (record { market = mk₂; rows = a }, wrote b)) rows (ap (take w) filled ∙ take-at written rest w (sym long))
+              ∙ ap₂ (λ m z. (record { market = m; rows = ticked-rows (q .share) (su .limit) k (rows-view means m z) }, wrote (ticked-slips (q .share) (su .limit) k (rows-view means m z)))) after same
+              ∙ granted _ _ (sym (quote-rows means mk q (su .limit) n known k (sym some) xs)) (sym (quote-slips means mk q (su .limit) n known k (sym some) xs)),
+          tick-count w long,
+          ap (drop w) filled ∙ drop-at written rest w (sym long),
+        )

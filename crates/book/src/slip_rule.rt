@@ -76,7 +76,13 @@ fn is_held_back(terms: &Terms, limit: Limit, fire: &Fire, price: u32) -> bool
 }
 
 // The outcome of a fire, where so much was sent before and the traded share has these prices.
-pub(crate) fn outcome_of(terms: &Terms, limit: Limit, sent: u32, prices: Option<Levels>, fire: &Fire) -> Outcome
+pub(crate) fn outcome_of(
+    terms: &Terms,
+    limit: Limit,
+    sent: u32,
+    prices: Option<Levels>,
+    fire: &Fire,
+) -> Outcome
     ensures { λ r. ⌜ r ≡ outcome-of (now (terms .entry)) (limit .value) sent prices (now (fire .entry)) ⌝ }
 {
     if exceeds(terms, sent) {
@@ -104,7 +110,13 @@ fn price_under(outcome: Outcome, price: u32) -> u32
     }
 }
 
-pub(crate) fn slip_of(terms: &Terms, outcome: Outcome, prices: Option<Levels>, fire: &Fire, tick: &Tick) -> Slip
+pub(crate) fn slip_of(
+    terms: &Terms,
+    outcome: Outcome,
+    prices: Option<Levels>,
+    fire: &Fire,
+    tick: &Tick,
+) -> Slip
     ensures { λ r. ⌜ r ≡ slip-of (now (terms .entry)) outcome prices (now (fire .entry)) (now (tick .entry)) ⌝ }
 {
     Slip {

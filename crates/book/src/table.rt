@@ -97,7 +97,14 @@ fn keep<C>(rows: &mut [Row<C>], at: usize, i: usize, stays: bool) -> usize
 }
 
 // Tells the orders that watch the share a tick, in order of placing: the slips fill from the first place, and rows move up where an order leaves.
-pub(crate) fn tell_tick<C: Condition>(rows: &mut [Row<C>], share: u8, tick: Tick, limit: Limit, market: &Market, slips: &mut [Slip]) -> Quoted
+pub(crate) fn tell_tick<C: Condition>(
+    rows: &mut [Row<C>],
+    share: u8,
+    tick: Tick,
+    limit: Limit,
+    market: &Market,
+    slips: &mut [Slip],
+) -> Quoted
     requires { ⌜ countBy (watches-share share) (rows-view (C·Condition .meaning) (market-of (now market .shares)) (now rows)) ≤ length (now slips) ⌝ }
     ensures within { λ r. ⌜ r .stay ≤ length (now (rows .entry)) ⌝ }
     ensures table { λ r. ⌜ rows-view (C·Condition .meaning) (market-of (now (market .entry) .shares)) (take (r .stay) (now (rows .exit))) ≡ ticked-rows share (limit .value) tick (rows-view (C·Condition .meaning) (market-of (now (market .entry) .shares)) (now (rows .entry))) ⌝ }

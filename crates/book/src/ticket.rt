@@ -13,7 +13,12 @@ impl Drop for Ticket {
     fn drop(self)
         requires { ⌜ self .spent ≡ true ⌝ }
     {
-        let Ticket { void: _, book: _, number: _, spent: _ } = self;
+        let Ticket {
+            void: _,
+            book: _,
+            number: _,
+            spent: _,
+        } = self;
     }
 }
 

@@ -197,16 +197,16 @@ module _ {C : Type 0} {means : C → Meaning} {su₀ su : Setup} {qs : List (Req
       record {
         within = omega (arith, few, tail-length, v);
         replies =
-          ap₂ (λ y z. y ++ map reply-of (outcomes means su₀ z (drop (i + 1) qs))) pushed next
-          ∙ append-assoc rs (r ∷ []) (map reply-of more)
-          ∙ ap (λ z. rs ++ z ∷ map reply-of more) (t₂ .reply)
-          ∙ ap (λ z. rs ++ map reply-of z) here
-          ∙ p .replies;
+            ap₂ (λ y z. y ++ map reply-of (outcomes means su₀ z (drop (i + 1) qs))) pushed next
+            ∙ append-assoc rs (r ∷ []) (map reply-of more)
+            ∙ ap (λ z. rs ++ z ∷ map reply-of more) (t₂ .reply)
+            ∙ ap (λ z. rs ++ map reply-of z) here
+            ∙ p .replies;
         slips =
-          ap₂ (λ y z. y ++ joined slips-of (outcomes means su₀ z (drop (i + 1) qs))) g next
-          ∙ append-assoc (take w ss) (slips-of x) (joined slips-of more)
-          ∙ ap (λ z. take w ss ++ joined slips-of z) here
-          ∙ p .slips;
+            ap₂ (λ y z. y ++ joined slips-of (outcomes means su₀ z (drop (i + 1) qs))) g next
+            ∙ append-assoc (take w ss) (slips-of x) (joined slips-of more)
+            ∙ ap (λ z. take w ss ++ joined slips-of z) here
+            ∙ p .slips;
         rest = ap (drop (w + m)) f ∙ drop-at (take w ss ++ take m ys) (drop m ys) (w + m) u ∙ t₂ .rest ∙ ap (drop m) (tail-is ∙ p .rest) ∙ drop-drop m w ps;
         setup = same ∙ p .setup;
       }
@@ -250,11 +250,11 @@ ending-more {su₀} {su} {s₀} {s} {ts₀} {rs₀} {rs} ts p t ts₂ h e f su�
     let to : s₂ ≡ y .0 = ap (λ (z : State × Reply). z .0) by in
     record {
       replies =
-        ap (λ z. z ++ map reply-of (ending su₀ s₂ (rights ts₂))) pushed
-        ∙ append-assoc rs (r ∷ []) (map reply-of (ending su₀ s₂ (rights ts₂)))
-        ∙ ap₂ (λ a b. rs ++ a ∷ map reply-of (ending su₀ b (rights ts₂))) one to
-        ∙ ap (λ z. rs ++ map reply-of (ending su₀ s z)) (sym left)
-        ∙ p .replies;
+          ap (λ z. z ++ map reply-of (ending su₀ s₂ (rights ts₂))) pushed
+          ∙ append-assoc rs (r ∷ []) (map reply-of (ending su₀ s₂ (rights ts₂)))
+          ∙ ap₂ (λ a b. rs ++ a ∷ map reply-of (ending su₀ b (rights ts₂))) one to
+          ∙ ap (λ z. rs ++ map reply-of (ending su₀ s z)) (sym left)
+          ∙ p .replies;
       setup = same ∙ p .setup;
     }
 
@@ -281,9 +281,10 @@ module _ {C : Type 0} (means : C → Meaning) (su : Setup) where
   entries-run p [] = ending-run (p .state) (map unfilled (p .held))
   entries-run p (q ∷ qs) =
       elim (call-of means p q) as (λ (o : Option Call).
-          trace su (p .state) (calls (made-list (answered su (p .state) o) ++ entries means su (after su p q o) qs)) ≡ made-list (answered su (p .state) o) ++ entries means su (after su p q o) qs)
-        [ None ↦ entries-run p qs
-        | Some c ↦ ap (λ xs. entry c (step su (p .state) c .1) ∷ xs) (entries-run (after su p q (Some c)) qs) ]
+      trace su (p .state) (calls (made-list (answered su (p .state) o) ++ entries means su (after su p q o) qs)) ≡ made-list (answered su (p .state) o) ++ entries means su (after su p q o) qs) [
+        | None ↦ entries-run p qs
+        | Some c ↦ ap (λ xs. entry c (step su (p .state) c .1) ∷ xs) (entries-run (after su p q (Some c)) qs)
+      ]
 
 made-slips : (os : List (Option Entry)) → joined slips-of os ≡ joined (λ (x : Entry). slips-in (x .reply)) (joined made-list os)
 made-slips [] = refl
@@ -301,9 +302,9 @@ replays {C} {means} {su₀} {su} {qs} {s₀} {s} {ts₀} {ts} {n} {rs₀} {rs} {
     let run : trace su₀ new (map (λ (x : Entry). x .call) (joined made-list all)) ≡ joined made-list all = entries-run means su₀ (point new [] (length ps)) qs in
     record {
       replies =
-        e₆ ∙ ap (λ z. rs ++ map reply-of (ending z s ts)) e₅ ∙ p .replies ∙ ap₂ (λ a b. a ++ map reply-of b) e₄ begun;
+          e₆ ∙ ap (λ z. rs ++ map reply-of (ending z s ts)) e₅ ∙ p .replies ∙ ap₂ (λ a b. a ++ map reply-of b) e₄ begun;
       slips =
-        sym (append-nil (take n ps′)) ∙ ap (λ z. take n ps′ ++ z) (sym (ending-silent su s ts)) ∙ p .slips ∙ ap (joined slips-of) begun ∙ made-slips all;
+          sym (append-nil (take n ps′)) ∙ ap (λ z. take n ps′ ++ z) (sym (ending-silent su s ts)) ∙ p .slips ∙ ap (joined slips-of) begun ∙ made-slips all;
       within = p .within;
       rest = p .rest;
       run = run;

@@ -115,7 +115,12 @@ fn claim<'a, C: Condition>(desk: &mut Desk<'a, C>, held: &mut Vec<Ticket>, numbe
 }
 
 // Spends the ticket that is held at that place, if there is one.
-fn settle<'a, C: Condition>(desk: &mut Desk<'a, C>, held: &mut Vec<Ticket>, at: usize, fill: Option<Price>) -> Reply
+fn settle<'a, C: Condition>(
+    desk: &mut Desk<'a, C>,
+    held: &mut Vec<Ticket>,
+    at: usize,
+    fill: Option<Price>,
+) -> Reply
     ensures turned { λ r. ⌜ ((ps : List Place) → Turned (C·Condition .meaning) (desk-setup (now (desk .entry))) (point (desk-view (C·Condition .meaning) (now (desk .entry))) (rights (vec-items (now (held .entry)))) (length ps)) (ask.Settle at fill) (desk-view (C·Condition .meaning) (now (desk .exit))) (rights (vec-items (now (held .exit)))) r ps ps) ⌝ }
     ensures setup { λ _. ⌜ desk-setup (now (desk .exit)) ≡ desk-setup (now (desk .entry)) ⌝ }
     ensures room { λ _. ⌜ vec-cap (now (held .exit)) ≡ vec-cap (now (held .entry)) ⌝ }
@@ -192,7 +197,11 @@ fn carry_out_all<'a, 'r, C: Condition + Copy>(
 }
 
 // Settles the tickets that are held with nothing filled, the oldest first.
-fn settle_all<'a, C: Condition>(desk: &mut Desk<'a, C>, mut held: Vec<Ticket>, replies: &mut Vec<Reply>)
+fn settle_all<'a, C: Condition>(
+    desk: &mut Desk<'a, C>,
+    mut held: Vec<Ticket>,
+    replies: &mut Vec<Reply>,
+)
     requires { ⌜ vec-len (now replies) + vec-len held ≤ vec-cap (now replies) ⌝ }
     ensures { λ _. ⌜ vec-items (now (replies .exit)) ≡ vec-items (now (replies .entry)) ++ map reply-of (outcomes (C·Condition .meaning) (desk-setup (now (desk .entry))) (point (desk-view (C·Condition .meaning) (now (desk .entry))) (rights (vec-items held)) 0) []) ⌝ }
 {

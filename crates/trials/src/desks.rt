@@ -2,8 +2,8 @@
 use crate::help::percent;
 use book::desk::Desk;
 use book::row::Row;
-use conditions::event::Side;
 use conditions::condition::Condition;
+use conditions::event::Side;
 use conditions::layer::pile::Pile;
 use conditions::layer::pile::pile;
 use conditions::layer::range::Range;
@@ -173,7 +173,9 @@ fn an_order_that_waits_is_claimed_once() -> Result<(), Fail> {
     let settled = refusal(desk.settle(first, None));
     let left = state_number(desk.state(7));
     check(good)?;
-    check([placed, waits, held, cancelled, spent, ended, settled, left] == [0, 2, 3, 28, 29, 4, 0, 0])
+    check(
+        [placed, waits, held, cancelled, spent, ended, settled, left] == [0, 2, 3, 28, 29, 4, 0, 0],
+    )
 }
 
 // The slips of quotes in two bursts.

@@ -1,18 +1,15 @@
-// What is printed for each line.
-use crate::desk::BothWoken;
-use crate::desk::Desk;
-use crate::desk::DeskFault;
-use crate::desk::DeskFaultFromAlloc;
-use crate::desk::DeskFaultFromMaking;
-use crate::desk::Woken;
-use crate::line::DayLine;
-use crate::line::Line;
-use crate::line::PlaceLine;
-use crate::line::QuoteLine;
-use crate::making::Made;
-use crate::making::condition_of;
+// What is printed: the answers to the lines, and the slips.
+use crate::line::BookName;
+use crate::unreadable::Unreadable;
+use crate::unreadable::UnreadableDisplay;
+use book::burst::Burst;
 use conditions::event::Side;
-use std::alloc::Global;
+use rules::fault::MarketFault;
+use rules::fault::MarketFaultDisplay;
+use rules::fault::PlacingFault;
+use rules::fault::PlacingFaultDisplay;
+use rules::slip::Outcome;
+use rules::slip::Slip;
 use std::fmt;
 use std::io;
 use values::decimal::Yuan;
@@ -21,105 +18,128 @@ use values::fault::MakingFault;
 use values::fault::MakingFaultDisplay;
 use values::price::text::PriceDisplay;
 
-// An answer without a value: done, or refused.
+// What an answer is to.
 #[derive(Clone, Copy)]
-struct Outcome(Option<MakingFault>);
+pub(crate) enum Head {
+    Word(&'static str),
+    Share(&'static str, u8),
+    Day(u8, u16),
+    Order(&'static str, BookName, u32),
+}
 
-impl fmt::Display for Outcome as OutcomeDisplay {
+pub(crate) impl fmt::Display for Head as HeadDisplay {
     fn fmt<W: fmt::Write>(&self, f: &mut fmt::Formatter<W>) -> fmt::Result {
-        match self.0 {
-            None => f.write_str("ok"),
-            Some(fault) => {
-                let number = fault.number();
-                write!(f, "refused {number}: {fault}")
+        match self {
+            Head::Word(word) => f.write_str(word),
+            Head::Share(word, share) => write!(f, "{word} {share}"),
+            Head::Day(share, number) => write!(f, "day {share} {number}"),
+            Head::Order(word, book, number) => {
+                let book = book.word();
+                write!(f, "{word} {book} {number}")
             }
         }
     }
 }
 
-// Takes want of memory apart from a refusal, which is an answer.
-fn outcome_of(done: Result<(), DeskFault>) -> io::Result<Outcome> {
-    match done {
-        Ok(()) => Ok(Outcome(None)),
-        Err(DeskFault::Making(fault)) => Ok(Outcome(Some(fault))),
-        Err(DeskFault::Memory) => Err(io::Error::from(io::ErrorKind::OutOfMemory)),
+// What a line is answered with.
+#[derive(Clone, Copy)]
+pub(crate) enum Answer {
+    Done,
+    // a value could not be made, and so no call was
+    Making(MakingFault),
+    Market(MarketFault),
+    Placing(PlacingFault),
+    // how many slips a quote wrote
+    Slips(usize),
+    Burst(Burst),
+    Ticket,
+    VoidTicket,
+    NoTicket,
+    // the number of an order's state
+    State(u8),
+}
+
+impl Answer {
+    pub(crate) fn of_market(done: Result<(), MarketFault>) -> Answer {
+        match done {
+            Ok(()) => Answer::Done,
+            Err(fault) => Answer::Market(fault),
+        }
+    }
+
+    pub(crate) fn of_placing(done: Result<(), PlacingFault>) -> Answer {
+        match done {
+            Ok(()) => Answer::Done,
+            Err(fault) => Answer::Placing(fault),
+        }
     }
 }
 
-fn word_of(side: Side) -> &'static str {
-    match side {
+pub(crate) impl fmt::Display for Answer as AnswerDisplay {
+    fn fmt<W: fmt::Write>(&self, f: &mut fmt::Formatter<W>) -> fmt::Result {
+        match self {
+            Answer::Done => f.write_str("ok"),
+            Answer::Making(fault) => {
+                let number = fault.number();
+                write!(f, "refused {number}: {fault}")
+            }
+            Answer::Market(fault) => {
+                let number = fault.number();
+                write!(f, "refused {number}: {fault}")
+            }
+            Answer::Placing(fault) => {
+                let number = fault.number();
+                write!(f, "refused {number}: {fault}")
+            }
+            Answer::Slips(count) => write!(f, "{count}"),
+            Answer::Burst(burst) => {
+                let taken = burst.taken;
+                let written = burst.written;
+                let stop = match burst.stop {
+                    Some(fault) => fault.number(),
+                    None => 0,
+                };
+                write!(f, "taken {taken} slips {written} stop {stop}")
+            }
+            Answer::Ticket => f.write_str("ticket"),
+            Answer::VoidTicket => f.write_str("void"),
+            Answer::NoTicket => f.write_str("no ticket"),
+            Answer::State(number) => write!(f, "{number}"),
+        }
+    }
+}
+
+pub(crate) fn print_answer(rt: &LibcRuntime, head: Head, answer: Answer) -> io::Result<()> {
+    println!(rt, "{head}: {answer}")
+}
+
+pub(crate) fn print_unreadable(
+    rt: &LibcRuntime,
+    number: u64,
+    reason: Unreadable,
+) -> io::Result<()> {
+    println!(rt, "line {number}: unreadable: {reason}")
+}
+
+pub(crate) fn print_slip(rt: &LibcRuntime, book: &str, slip: &Slip) -> io::Result<()> {
+    let number = slip.number;
+    let moment = slip.moment;
+    let side = match slip.side {
         Side::Buy => "buy",
         Side::Sell => "sell",
-    }
-}
-
-fn print_woken(
-    rt: &LibcRuntime,
-    book: &str,
-    quote: &QuoteLine,
-    woken: &Vec<Woken>,
-) -> io::Result<()> {
-    for one in woken.iter() {
-        let number = one.number;
-        let moment = quote.moment;
-        let side = word_of(one.fire.side);
-        let trigger = one.fire.trigger;
-        let market = Yuan(quote.last);
-        println!(
-            rt,
-            "fire {book} {number} at {moment} {side} trigger {trigger} market {market}"
-        )?;
-    }
-    Ok(())
-}
-
-fn answer_quote(rt: &LibcRuntime, desk: &mut Desk, quote: &QuoteLine) -> io::Result<()> {
-    let share = quote.share;
-    match desk.quote(rt.alloc(), quote) {
-        Ok(woken) => {
-            let single = woken.single.len();
-            let grid = woken.grid.len();
-            println!(rt, "quote {share}: single {single}, grid {grid}")?;
-            print_woken(rt, "single", quote, &woken.single)?;
-            print_woken(rt, "grid", quote, &woken.grid)
-        }
-        Err(DeskFault::Making(fault)) => {
-            let refused = Outcome(Some(fault));
-            println!(rt, "quote {share}: single {refused}, grid {refused}")
-        }
-        Err(DeskFault::Memory) => Err(io::Error::from(io::ErrorKind::OutOfMemory)),
-    }
-}
-
-fn answer_place(rt: &LibcRuntime, desk: &mut Desk, line: &PlaceLine) -> io::Result<()> {
-    let number = line.number;
-    let book = line.kind.book();
-    let outcome = match condition_of(line) {
-        Ok(made) => outcome_of(desk.place(line, made))?,
-        Err(fault) => Outcome(Some(fault)),
     };
-    println!(rt, "place {book} {number}: {outcome}")
-}
-
-fn answer_day(rt: &LibcRuntime, desk: &mut Desk, line: &DayLine) -> io::Result<()> {
-    let share = line.share;
-    let number = line.number;
-    let outcome = outcome_of(desk.open_day(rt.alloc(), line))?;
-    println!(rt, "day {share} {number}: single {outcome}, grid {outcome}")
-}
-
-fn answer_list(rt: &LibcRuntime, desk: &mut Desk, share: u8, closes: &Vec<u32>) -> io::Result<()> {
-    let outcome = outcome_of(desk.list(rt.alloc(), share, closes))?;
-    println!(rt, "list {share}: single {outcome}, grid {outcome}")
-}
-
-// Carries out a line and prints its answer.
-pub(crate) fn answer(rt: &LibcRuntime, desk: &mut Desk, at: u64, line: &Line) -> io::Result<()> {
-    match line {
-        Line::List { share, closes } => answer_list(rt, desk, *share, closes),
-        Line::Day(day) => answer_day(rt, desk, day),
-        Line::Place(place) => answer_place(rt, desk, place),
-        Line::Quote(quote) => answer_quote(rt, desk, quote),
-        _ => println!(rt, "line {at}: unreadable: not served yet"),
-    }
+    let trigger = slip.trigger;
+    let market = slip.market;
+    let price = Yuan(slip.price);
+    let quantity = slip.quantity;
+    let outcome = match slip.outcome {
+        Outcome::Sent => "sent",
+        Outcome::Withheld => "withheld",
+        Outcome::Unpriced => "unpriced",
+        Outcome::Exceeded => "exceeded",
+    };
+    println!(
+        rt,
+        "slip {book} {number} at {moment} {side} trigger {trigger} market {market} price {price} quantity {quantity} {outcome}"
+    )
 }

@@ -46,26 +46,38 @@ fn line_end(bytes: &[u8]) -> usize
     bytes.len()
 }
 
-// The lines of the input, without their newlines. The last one needs none.
+// A line of the input without its newline, and its number from 1.
+#[derive(Clone, Copy)]
+pub(crate) struct InputLine<'a> {
+    pub(crate) number: u64,
+    pub(crate) bytes: &'a [u8],
+}
+
+// The lines of the input. The last one needs no newline.
 #[derive(Drop)]
 pub(crate) struct ByteLines<'a> {
     rest: &'a [u8],
+    // how many lines came before
+    passed: u64,
 }
 
 impl<'a> ByteLines<'a> {
     pub(crate) fn of(bytes: &'a [u8]) -> ByteLines<'a> {
-        ByteLines { rest: bytes }
+        ByteLines {
+            rest: bytes,
+            passed: 0,
+        }
     }
 }
 
 pub(crate) impl<'a> Iterator for ByteLines<'a> as ByteLinesIterator {
-    type Item = &'a [u8];
+    type Item = InputLine<'a>;
 
     ghost ends = { λ _. Unit {0} };
 
     ghost left = { λ s. length (now (s .rest)) };
 
-    fn next(&mut self) -> Option<&'a [u8]> {
+    fn next(&mut self) -> Option<InputLine<'a>> {
         let bytes = self.rest;
         if bytes.is_empty() {
             return None;
@@ -75,7 +87,11 @@ pub(crate) impl<'a> Iterator for ByteLines<'a> as ByteLinesIterator {
             [_, after @ ..] => after,
             [] => rest,
         };
-        Some(line)
+        self.passed = self.passed.saturating_add(1);
+        Some(InputLine {
+            number: self.passed,
+            bytes: line,
+        })
     }
 }
 

@@ -2,6 +2,9 @@
 use crate::unreadable::Unreadable;
 use crate::words::StepLine;
 use crate::words::Words;
+use conditions::event::Side;
+use kinds::order_kind::OrderKind;
+use kinds::trail::TrailOptions;
 
 // The way that the price is to go.
 #[derive(Clone, Copy)]
@@ -10,19 +13,12 @@ pub(crate) enum Way {
     Down,
 }
 
-#[derive(Clone, Copy)]
-pub(crate) enum SideWord {
-    Buy,
-    Sell,
-}
-
 // A price to reach, and the way back from the best one since that makes the order.
 #[derive(Clone, Copy)]
 pub(crate) struct TurnLine {
     pub(crate) mark: u32,
     pub(crate) step: StepLine,
-    pub(crate) floor: bool,
-    pub(crate) stay: bool,
+    pub(crate) options: TrailOptions,
 }
 
 #[derive(Clone, Copy)]
@@ -50,28 +46,28 @@ pub(crate) enum KindLine {
         linked: bool,
         way: Way,
         price: u32,
-        side: SideWord,
+        side: Side,
     },
     MovePercent {
         way: Way,
         percent: u32,
-        side: SideWord,
+        side: Side,
     },
     MoveLimit {
         way: Way,
-        side: SideWord,
+        side: Side,
     },
     Average {
         way: Way,
         days: u32,
         hold: u32,
-        side: SideWord,
+        side: Side,
     },
     Rebound(TurnLine),
     FallBack(TurnLine),
     Exit(ExitLine),
     Batch {
-        side: SideWord,
+        side: Side,
         base: u32,
         step: StepLine,
     },
@@ -79,11 +75,20 @@ pub(crate) enum KindLine {
 }
 
 impl KindLine {
-    // The book that holds orders of this kind.
-    pub(crate) fn book(&self) -> &'static str {
+    pub(crate) fn order_kind(&self) -> OrderKind {
         match self {
-            KindLine::Batch { .. } | KindLine::Grid(_) => "grid",
-            _ => "single",
+            KindLine::Level { linked, .. } => if *linked {
+                OrderKind::Linked
+            } else {
+                OrderKind::Level
+            },
+            KindLine::MovePercent { .. } | KindLine::MoveLimit { .. } => OrderKind::DayMove,
+            KindLine::Average { .. } => OrderKind::Average,
+            KindLine::Rebound(_) => OrderKind::Rebound,
+            KindLine::FallBack(_) => OrderKind::FallBack,
+            KindLine::Exit(_) => OrderKind::StopOrProfit,
+            KindLine::Batch { .. } => OrderKind::Batch,
+            KindLine::Grid(_) => OrderKind::Grid,
         }
     }
 }
@@ -96,10 +101,10 @@ fn read_way(words: &mut Words) -> Result<Way, Unreadable> {
     }
 }
 
-fn read_side(words: &mut Words) -> Result<SideWord, Unreadable> {
+fn read_side(words: &mut Words) -> Result<Side, Unreadable> {
     match words.word()? {
-        "buy" => Ok(SideWord::Buy),
-        "sell" => Ok(SideWord::Sell),
+        "buy" => Ok(Side::Buy),
+        "sell" => Ok(Side::Sell),
         _ => Err(Unreadable::none_of("side", "buy or sell")),
     }
 }
@@ -139,8 +144,10 @@ fn read_turn(words: &mut Words) -> Result<TurnLine, Unreadable> {
     Ok(TurnLine {
         mark: words.price("mark")?,
         step: words.step("step")?,
-        floor: words.takes("floor"),
-        stay: words.takes("stay"),
+        options: TrailOptions {
+            floor: words.takes("floor"),
+            stay: words.takes("stay"),
+        },
     })
 }
 

@@ -13,29 +13,62 @@ use crate::words::Words;
 use crate::words::WordsIterator;
 use crate::words::of_field;
 use crate::words::read_price;
+use kinds::order_kind::OrderKind;
+use rules::opening::Opening;
+use rules::order::Terms;
+use rules::quote::Levels;
+use rules::quote::Quote;
 use std::alloc::Global;
 
+// The house keeps single-shot orders apart from grids and batches.
 #[derive(Clone, Copy)]
 pub(crate) enum BookName {
     Single,
     Grid,
 }
 
-// An order, by its book and its number there.
-#[derive(Clone, Copy)]
-pub(crate) struct OrderLine {
-    pub(crate) book: BookName,
-    pub(crate) number: u32,
+impl BookName {
+    pub(crate) fn number(&self) -> u32 {
+        match self {
+            BookName::Single => 1,
+            BookName::Grid => 2,
+        }
+    }
+
+    pub(crate) fn word(&self) -> &'static str {
+        match self {
+            BookName::Single => "single",
+            BookName::Grid => "grid",
+        }
+    }
 }
 
-// The market's close and day limits of a share, for a day.
+// What is asked of one order.
 #[derive(Clone, Copy)]
-pub(crate) struct DayLine {
-    pub(crate) share: u8,
-    pub(crate) number: u16,
-    pub(crate) close: u32,
-    pub(crate) upper: u32,
-    pub(crate) lower: u32,
+pub(crate) enum Ask {
+    Cancel,
+    Claim,
+    // with the price of what was filled, if anything was
+    Settle(Option<u32>),
+    State,
+}
+
+impl Ask {
+    pub(crate) fn word(&self) -> &'static str {
+        match self {
+            Ask::Cancel => "cancel",
+            Ask::Claim => "claim",
+            Ask::Settle(_) => "settle",
+            Ask::State => "state",
+        }
+    }
+}
+
+#[derive(Clone, Copy)]
+pub(crate) struct OrderLine {
+    pub(crate) ask: Ask,
+    pub(crate) book: BookName,
+    pub(crate) number: u32,
 }
 
 #[derive(Clone, Copy)]
@@ -48,26 +81,11 @@ pub(crate) struct RangeLine {
 
 #[derive(Clone, Copy)]
 pub(crate) struct PlaceLine {
-    pub(crate) number: u32,
-    pub(crate) watched: u8,
-    pub(crate) traded: u8,
-    pub(crate) quantity: u32,
-    pub(crate) total: u32,
-    pub(crate) choice: u8,
-    pub(crate) own: u32,
+    pub(crate) book: BookName,
+    pub(crate) terms: Terms,
     pub(crate) until: Option<u16>,
     pub(crate) range: Option<RangeLine>,
     pub(crate) kind: KindLine,
-}
-
-#[derive(Clone, Copy)]
-pub(crate) struct QuoteLine {
-    pub(crate) share: u8,
-    pub(crate) phase: u8,
-    pub(crate) moment: u32,
-    pub(crate) last: u32,
-    pub(crate) bids: [u32; 5],
-    pub(crate) asks: [u32; 5],
 }
 
 // What a line asks for.
@@ -78,15 +96,11 @@ pub(crate) enum Line {
     Rows(u32),
     Places(u32),
     List { share: u8, closes: Vec<u32> },
-    Day(DayLine),
+    Day(Opening),
     Place(PlaceLine),
-    Quote(QuoteLine),
+    Quote(Quote),
     Burst(u32),
-    Cancel(OrderLine),
-    Claim(OrderLine),
-    // `fill` is the price of what was filled, if anything was.
-    Settle { order: OrderLine, fill: Option<u32> },
-    State(OrderLine),
+    Order(OrderLine),
 }
 
 fn read_list(heap: Global, words: &mut Words) -> Result<Line, ReadFault> {
@@ -98,8 +112,8 @@ fn read_list(heap: Global, words: &mut Words) -> Result<Line, ReadFault> {
     Ok(Line::List { share, closes })
 }
 
-fn read_day(words: &mut Words) -> Result<DayLine, Unreadable> {
-    Ok(DayLine {
+fn read_day(words: &mut Words) -> Result<Opening, Unreadable> {
+    Ok(Opening {
         share: words.byte("share")?,
         number: words.day("day")?,
         close: words.price("close")?,
@@ -134,18 +148,36 @@ fn read_range(words: &mut Words) -> Result<Option<RangeLine>, Unreadable> {
     }))
 }
 
-fn read_place(words: &mut Words) -> Result<PlaceLine, Unreadable> {
-    Ok(PlaceLine {
+fn read_terms(words: &mut Words) -> Result<Terms, Unreadable> {
+    Ok(Terms {
         number: words.number("number")?,
         watched: words.byte("watched")?,
         traded: words.byte("traded")?,
         quantity: words.number("quantity")?,
         total: words.number("total")?,
         choice: words.byte("choice")?,
-        own: words.price("own")?,
-        until: read_until(words)?,
-        range: read_range(words)?,
-        kind: read_kind(words)?,
+        own_price: words.price("own")?,
+        limit_mark: false,
+    })
+}
+
+fn read_place(words: &mut Words) -> Result<PlaceLine, Unreadable> {
+    let mut terms = read_terms(words)?;
+    let until = read_until(words)?;
+    let range = read_range(words)?;
+    let kind = read_kind(words)?;
+    let named = kind.order_kind();
+    terms.limit_mark = named.limit_mark();
+    let book = match named {
+        OrderKind::Batch | OrderKind::Grid => BookName::Grid,
+        _ => BookName::Single,
+    };
+    Ok(PlaceLine {
+        book,
+        terms,
+        until,
+        range,
+        kind,
     })
 }
 
@@ -158,14 +190,16 @@ fn read_levels(words: &mut Words, field: &'static str) -> Result<[u32; 5], Unrea
     Ok(levels)
 }
 
-fn read_quote(words: &mut Words) -> Result<QuoteLine, Unreadable> {
-    Ok(QuoteLine {
+fn read_quote(words: &mut Words) -> Result<Quote, Unreadable> {
+    Ok(Quote {
         share: words.byte("share")?,
         phase: words.byte("phase")?,
         moment: words.moment("moment")?,
-        last: words.price("last")?,
-        bids: read_levels(words, "bid")?,
-        asks: read_levels(words, "ask")?,
+        levels: Levels {
+            last: words.price("last")?,
+            bids: read_levels(words, "bid")?,
+            asks: read_levels(words, "ask")?,
+        },
     })
 }
 
@@ -177,11 +211,12 @@ fn read_book(words: &mut Words) -> Result<BookName, Unreadable> {
     }
 }
 
-fn read_order(words: &mut Words) -> Result<OrderLine, Unreadable> {
-    Ok(OrderLine {
+fn read_order(words: &mut Words, ask: Ask) -> Result<Line, Unreadable> {
+    Ok(Line::Order(OrderLine {
+        ask,
         book: read_book(words)?,
         number: words.number("number")?,
-    })
+    }))
 }
 
 fn read_fill(words: &mut Words) -> Result<Option<u32>, Unreadable> {
@@ -192,9 +227,10 @@ fn read_fill(words: &mut Words) -> Result<Option<u32>, Unreadable> {
 }
 
 fn read_settle(words: &mut Words) -> Result<Line, Unreadable> {
-    let order = read_order(words)?;
-    let fill = read_fill(words)?;
-    Ok(Line::Settle { order, fill })
+    let book = read_book(words)?;
+    let number = words.number("number")?;
+    let ask = Ask::Settle(read_fill(words)?);
+    Ok(Line::Order(OrderLine { ask, book, number }))
 }
 
 // The line that begins with the word, from the words after it: all lines but `list`, which alone wants memory.
@@ -207,10 +243,10 @@ fn read_form(first: &str, words: &mut Words) -> Result<Line, Unreadable> {
         "place" => Ok(Line::Place(read_place(words)?)),
         "quote" => Ok(Line::Quote(read_quote(words)?)),
         "burst" => Ok(Line::Burst(words.number("burst")?)),
-        "cancel" => Ok(Line::Cancel(read_order(words)?)),
-        "claim" => Ok(Line::Claim(read_order(words)?)),
+        "cancel" => read_order(words, Ask::Cancel),
+        "claim" => read_order(words, Ask::Claim),
         "settle" => read_settle(words),
-        "state" => Ok(Line::State(read_order(words)?)),
+        "state" => read_order(words, Ask::State),
         _ => Err(Unreadable::UnknownWord),
     }
 }

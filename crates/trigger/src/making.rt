@@ -3,7 +3,6 @@
 use crate::kind::ExitLine;
 use crate::kind::GridLine;
 use crate::kind::KindLine;
-use crate::kind::SideWord;
 use crate::kind::TurnLine;
 use crate::kind::Way;
 use crate::line::PlaceLine;
@@ -39,7 +38,6 @@ use kinds::test::move_of_day::Distance;
 use kinds::test::move_of_day::MoveOfDayTest;
 use kinds::test::prompt::PromptCondition;
 use kinds::trail::TrailCondition;
-use kinds::trail::TrailOptions;
 use values::days::AveragingDays;
 use values::direction::Falling;
 use values::direction::FallingDirection;
@@ -66,13 +64,6 @@ enum MadeKind {
     Repeating(Repeating),
 }
 
-fn side_of(word: SideWord) -> Side {
-    match word {
-        SideWord::Buy => Side::Buy,
-        SideWord::Sell => Side::Sell,
-    }
-}
-
 fn step_of(line: StepLine) -> Result<Step, MakingFault> {
     match line {
         StepLine::Percent(r) => Ok(Step::Percent(Percentage::new(r)?)),
@@ -80,55 +71,40 @@ fn step_of(line: StepLine) -> Result<Step, MakingFault> {
     }
 }
 
-fn level_of(way: Way, price: u32, side: SideWord) -> Result<EitherLevel, MakingFault> {
+fn level_of(way: Way, price: u32, side: Side) -> Result<EitherLevel, MakingFault> {
     let price = Price::new(price)?;
-    let side = side_of(side);
     match way {
         Way::Up => Ok(OneOf::First(making::level(Rising, price, side))),
         Way::Down => Ok(OneOf::Second(making::level(Falling, price, side))),
     }
 }
 
-fn move_of(way: Way, distance: Distance, side: SideWord) -> EitherMove {
-    let side = side_of(side);
+fn move_of(way: Way, distance: Distance, side: Side) -> EitherMove {
     match way {
         Way::Up => OneOf::First(making::move_of_day(Rising, distance, side)),
         Way::Down => OneOf::Second(making::move_of_day(Falling, distance, side)),
     }
 }
 
-fn average_of(
-    way: Way,
-    days: u32,
-    hold: u32,
-    side: SideWord,
-) -> Result<EitherAverage, MakingFault> {
+fn average_of(way: Way, days: u32, hold: u32, side: Side) -> Result<EitherAverage, MakingFault> {
     let days = AveragingDays::new(days)?;
     let hold = Hold::new(hold)?;
-    let side = side_of(side);
     match way {
         Way::Up => Ok(OneOf::First(making::average(Rising, days, hold, side))),
         Way::Down => Ok(OneOf::Second(making::average(Falling, days, hold, side))),
     }
 }
 
-fn options_of(line: TurnLine) -> TrailOptions {
-    TrailOptions {
-        floor: line.floor,
-        stay: line.stay,
-    }
-}
-
 fn rebound_of(line: TurnLine) -> Result<EitherTrail, MakingFault> {
     let mark = Price::new(line.mark)?;
     let step = step_of(line.step)?;
-    Ok(OneOf::First(making::rebound_buy(mark, step, options_of(line))))
+    Ok(OneOf::First(making::rebound_buy(mark, step, line.options)))
 }
 
 fn fall_back_of(line: TurnLine) -> Result<EitherTrail, MakingFault> {
     let mark = Price::new(line.mark)?;
     let step = step_of(line.step)?;
-    Ok(OneOf::Second(making::fall_back_sell(mark, step, options_of(line))))
+    Ok(OneOf::Second(making::fall_back_sell(mark, step, line.options)))
 }
 
 fn exit_of(line: ExitLine) -> Result<StopOrProfit, MakingFault> {
@@ -142,12 +118,12 @@ fn exit_of(line: ExitLine) -> Result<StopOrProfit, MakingFault> {
     making::stop_or_profit(base, stop, profit, trail)
 }
 
-fn batch_of(side: SideWord, base: u32, step: StepLine) -> Result<EitherBatch, MakingFault> {
+fn batch_of(side: Side, base: u32, step: StepLine) -> Result<EitherBatch, MakingFault> {
     let base = Price::new(base)?;
     let step = step_of(step)?;
     match side {
-        SideWord::Buy => Ok(OneOf::First(making::buy_batch(base, step))),
-        SideWord::Sell => Ok(OneOf::Second(making::sell_batch(base, step))),
+        Side::Buy => Ok(OneOf::First(making::buy_batch(base, step))),
+        Side::Sell => Ok(OneOf::Second(making::sell_batch(base, step))),
     }
 }
 
@@ -246,4 +222,26 @@ pub(crate) fn condition_of(line: &PlaceLine) -> Result<Made, MakingFault> {
         MadeKind::Single(c) => Ok(Made::Single(pile(line.until, bounds, c))),
         MadeKind::Repeating(c) => Ok(Made::Repeating(pile(line.until, bounds, c))),
     }
+}
+
+// What stands in a row of the single-shot orders' book before an order does.
+pub(crate) fn vacant_single() -> Pile<SingleShot> {
+    let price = PriceRange::whole().low();
+    let level = making::level(Rising, price, Side::Buy);
+    pile(
+        None,
+        None,
+        SingleShot::LevelOrMove(OneOf::First(OneOf::First(level))),
+    )
+}
+
+// What stands in a row of the grids' and batches' book before an order does.
+pub(crate) fn vacant_repeating() -> Pile<Repeating> {
+    let price = PriceRange::whole().low();
+    let step = match Difference::new(1) {
+        Ok(difference) => Step::Difference(difference),
+        Err(_) => unreachable(),
+    };
+    let batch = making::buy_batch(price, step);
+    pile(None, None, Repeating::Batch(OneOf::First(batch)))
 }

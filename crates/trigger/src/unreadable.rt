@@ -52,6 +52,10 @@ pub(crate) enum Unreadable {
     TooManyWords,
     // A field, and what is wrong with its word.
     Field(&'static str, WordFault),
+    // It sets what can only be set before the first call.
+    TooLate,
+    // It stands among the quotes of a burst and is none.
+    NotQuote,
 }
 
 impl Unreadable {
@@ -69,6 +73,8 @@ pub(crate) impl fmt::Display for Unreadable as UnreadableDisplay {
             Unreadable::TooFewWords => f.write_str("too few words"),
             Unreadable::TooManyWords => f.write_str("too many words"),
             Unreadable::Field(field, fault) => write!(f, "{field}: {fault}"),
+            Unreadable::TooLate => f.write_str("only before the first call"),
+            Unreadable::NotQuote => f.write_str("not a quote of the burst"),
         }
     }
 }

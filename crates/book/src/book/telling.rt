@@ -55,7 +55,12 @@ impl<'a, C: Condition> Book<'a, C> {
 
     // Takes a quote: in continuous trading the orders that watch the share are told its tick. The slips fill from the first place,
     // and their count is answered.
-    pub fn quote(&mut self, market: &mut Market, quote: Quote, slips: &mut [Slip]) -> Result<usize, PlacingFault>
+    pub fn quote(
+        &mut self,
+        market: &mut Market,
+        quote: Quote,
+        slips: &mut [Slip],
+    ) -> Result<usize, PlacingFault>
         ensures step { λ r. ⌜ (view (C·Condition .meaning) (market-of (now (market .exit) .shares)) (now (self .exit)), quote-reply r (now (slips .exit))) ≡ step (setup-of (now (self .entry))) (view (C·Condition .meaning) (market-of (now (market .entry) .shares)) (now (self .entry))) (call.single (call.quoting quote (length (now (slips .entry))))) ⌝ }
         ensures count { λ r. ⌜ count-in r ≤ length (now (slips .entry)) ⌝ }
         ensures rest { λ r. ⌜ drop (count-in r) (now (slips .exit)) ≡ drop (count-in r) (now (slips .entry)) ⌝ }
@@ -71,7 +76,14 @@ impl<'a, C: Condition> Book<'a, C> {
         };
         let n = self.used();
         let limit = self.limit;
-        let quoted = tell_tick(&mut self.rows[0..n], quote.share, tick, limit, market, slips);
+        let quoted = tell_tick(
+            &mut self.rows[0..n],
+            quote.share,
+            tick,
+            limit,
+            market,
+            slips,
+        );
         self.count = quoted.stay;
         Ok(quoted.written)
     }

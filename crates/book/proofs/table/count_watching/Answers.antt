@@ -14,8 +14,9 @@ pub loop-row-again : need.loop-row-again
 loop-row-again g c =
     let m = λ (mk : Market). count-more (row-view (g .C·Condition .meaning) mk) (watches-share (c .args .share)) (c .args .rows .now) (c .loop-row .row-index) (c .row-item .result) (c .watches .result) (c .loop-row-test .taken) (c .row-item .is) (c .watches .ensures mk) in
     elim (c .if-watches .came) [
-      then-watches w ↦ (let e : c .watches .result ≡ true = w .if-watches .taken in (omega arith, λ mk. let q = rw e at (m mk) in omega (arith, c .loop-row .inv .1 mk)))
-    | else-watches w ↦ (let e : c .watches .result ≡ false = w .if-watches .left in (omega arith, λ mk. let q = rw e at (m mk) in omega (arith, c .loop-row .inv .1 mk))) ]
+      | then-watches w ↦ (let e : c .watches .result ≡ true = w .if-watches .taken in (omega arith, λ mk. let q = rw e at (m mk) in omega (arith, c .loop-row .inv .1 mk)))
+      | else-watches w ↦ (let e : c .watches .result ≡ false = w .if-watches .left in (omega arith, λ mk. let q = rw e at (m mk) in omega (arith, c .loop-row .inv .1 mk)))
+    ]
 
 pub returns : need.returns
 returns g c mk =

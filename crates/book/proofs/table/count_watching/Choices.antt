@@ -10,4 +10,4 @@ use Rattle.book.proofs.table.count_watching.Given as given
 abbrev pub Inv-loop-row : given.InvT-loop-row
 Inv-loop-row g l =
     (l .n ≤ l .row-index)
-      × ((mk : Market) → l .n + countBy (watches-share (l .share)) (rows-view (g .C·Condition .meaning) mk (drop (l .row-index) (l .rows))) ≡ countBy (watches-share (l .share)) (rows-view (g .C·Condition .meaning) mk (l .rows)))
+    × ((mk : Market) → l .n + countBy (watches-share (l .share)) (rows-view (g .C·Condition .meaning) mk (drop (l .row-index) (l .rows))) ≡ countBy (watches-share (l .share)) (rows-view (g .C·Condition .meaning) mk (l .rows)))

@@ -7,10 +7,12 @@ use Rattle.book.proofs.Places.{found-at, past-at}
 use Rattle.book.proofs.table.find.Needs as need
 
 pub loop-row-again : need.loop-row-again
-loop-row-again g c =
-    (omega (arith, c .loop-row .inv .0), λ mk.
+loop-row-again g c = (
+  omega (arith, c .loop-row .inv .0),
+  λ mk.
       let p = past-at (row-view (g .C·Condition .meaning) mk) (c .args .number) (c .args .rows .now) (c .loop-row .row-index) (c .row-item .result) (c .loop-row-test .taken) (c .row-item .is) (λ e. c .if-number .left (c .number .ensures ∙ e)) in
-      omega (arith, p, c .loop-row .inv .1 mk))
+      omega (arith, p, c .loop-row .inv .1 mk),
+)
 
 pub returns-after-loop-row : need.returns-after-loop-row
 returns-after-loop-row g c = λ mk.

@@ -9,4 +9,5 @@ returns-then-stays g c =
     record {
       next = rw e (search needs);
       front = rw e f;
-      rest = swap-rest (c .args .rows .now) (c .swap .last .self) (c .args .at) (c .args .i) (c .pre .behind) (c .pre .within) (c .swap .ensures .places .3) }
+      rest = swap-rest (c .args .rows .now) (c .swap .last .self) (c .args .at) (c .args .i) (c .pre .behind) (c .pre .within) (c .swap .ensures .places .3);
+    }

@@ -16,7 +16,7 @@ pub loop-i-again : need.loop-i-again
 loop-i-again g c mk =
     let h : c .loop-i .i < length (c .loop-i .rows) = omega arith in
     turned-more (c .keep-stay .last .rows) (c .keep-stay .result) (c .index-rows-i .result) (c .tell-day-stays .last .self) (c .tell-day-stays .result) (c .loop-i .inv mk) h
-      (c .tell-day-stays .ensures mk) (c .keep-stay .ensures .next) (c .keep-stay .ensures .front) (c .keep-stay .ensures .rest)
+    (c .tell-day-stays .ensures mk) (c .keep-stay .ensures .next) (c .keep-stay .ensures .front) (c .keep-stay .ensures .rest)
 
 pub returns : need.returns
 returns g c =

@@ -27,10 +27,10 @@ pub loop-i-again : need.loop-i-again
 loop-i-again g c =
     let h : c .loop-i .i < length (c .loop-i .rows) = omega arith in
     passing-more (c .keep-stay .last .rows) (c .write-written .last .slips) (c .keep-stay .result) (c .write-written .result)
-      (c .index-rows-i .result) (c .tell-tick-told .last .self) (c .tell-tick-told .result .stays) (slip-list (c .tell-tick-told .result .slip)) (c .loop-i .inv) h
-      (c .tell-tick-told .ensures .row) (c .tell-tick-told .ensures .slips)
-      (c .write-written .ensures .next) (c .write-written .ensures .written) (c .write-written .ensures .rest)
-      (c .keep-stay .ensures .next) (c .keep-stay .ensures .front) (c .keep-stay .ensures .rest)
+    (c .index-rows-i .result) (c .tell-tick-told .last .self) (c .tell-tick-told .result .stays) (slip-list (c .tell-tick-told .result .slip)) (c .loop-i .inv) h
+    (c .tell-tick-told .ensures .row) (c .tell-tick-told .ensures .slips)
+    (c .write-written .ensures .next) (c .write-written .ensures .written) (c .write-written .ensures .rest)
+    (c .keep-stay .ensures .next) (c .keep-stay .ensures .front) (c .keep-stay .ensures .rest)
 
 pub returns : need.returns
 returns g c =

@@ -16,4 +16,5 @@ returns-in-Some c =
     record {
       next = omega arith;
       written = take-more-set (c .args .slips .now) (c .args .at) (c .in-Some .s) h ∙ ap (λ r. take (c .args .at) (c .args .slips .now) ++ r) (sym e);
-      rest = drop-set-lt (c .args .at + 1) (c .args .slips .now) (c .args .at) (c .in-Some .s) l }
+      rest = drop-set-lt (c .args .at + 1) (c .args .slips .now) (c .args .at) (c .in-Some .s) l;
+    }

@@ -9,14 +9,15 @@ pub loop-request-again : need.loop-request-again
 loop-request-again g c =
     let p = c .loop-request .inv in
     let one = c .carry-out-reply in
-    let push = c .push-reserved in
-    (going-more (p .0) (c .loop-request .kept .slips) (c .request-item .result) (c .request-item .is) (c .loop-request-test .taken) (desk-setup (one .last .desk))
-       (desk-view (g .C·Condition .meaning) (one .last .desk)) (rights (one .last .held .items)) (one .result) (push .last .self .items) (one .last .slips)
-       (one .ensures .setup) (one .ensures .turned) (one .kept .slips) (push .ensures .items) (c .count-written .result) (c .count-written .ensures),
-     one .ensures .room ∙ p .1,
-     omega (arith, one .ensures .more, p .2),
-     push .ensures .capacity ∙ p .3,
-     omega (arith, push .ensures .len, p .4))
+    let push = c .push-reserved in (
+      going-more (p .0) (c .loop-request .kept .slips) (c .request-item .result) (c .request-item .is) (c .loop-request-test .taken) (desk-setup (one .last .desk))
+          (desk-view (g .C·Condition .meaning) (one .last .desk)) (rights (one .last .held .items)) (one .result) (push .last .self .items) (one .last .slips)
+          (one .ensures .setup) (one .ensures .turned) (one .kept .slips) (push .ensures .items) (c .count-written .result) (c .count-written .ensures),
+      one .ensures .room ∙ p .1,
+      omega (arith, one .ensures .more, p .2),
+      push .ensures .capacity ∙ p .3,
+      omega (arith, push .ensures .len, p .4),
+    )
 
 pub returns : need.returns
 returns g c =

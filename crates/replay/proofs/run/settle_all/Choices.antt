@@ -7,7 +7,7 @@ use Rattle.replay.proofs.run.settle_all.Given as given
 abbrev pub Inv-loop-held : given.InvT-loop-held
 Inv-loop-held g l =
     Ending (desk-setup (l .entry .desk)) (desk-setup (l .desk)) (desk-view (g .C·Condition .meaning) (l .entry .desk)) (desk-view (g .C·Condition .meaning) (l .desk))
-      (rights (l .entry .held .items)) (rights (l .held .items)) (l .entry .replies .items) (l .replies .items)
+    (rights (l .entry .held .items)) (rights (l .held .items)) (l .entry .replies .items) (l .replies .items)
     × (l .replies .len + l .held .len ≤ l .replies .cap)
 
 abbrev pub μ-loop-held : given.MeasureT-loop-held

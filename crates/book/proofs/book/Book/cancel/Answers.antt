@@ -21,7 +21,7 @@ returns-then-at-n g c =
     let u = c .used-n .ensures in
     record {
       step = λ mk. cancel-absent (setup-of b) (view m mk b) (c .args .number)
-        (row-none (c .args .number) (view m mk b .rows) (past-use (b .rows .now) (b .count) (c .used-n .result) (u .within) (u .same) (row-view m mk) (c .args .number) (c .place-of-at .result) (c .place-of-at .ensures mk) (c .if-at-n .taken)));
+          (row-none (c .args .number) (view m mk b .rows) (past-use (b .rows .now) (b .count) (c .used-n .result) (u .within) (u .same) (row-view m mk) (c .args .number) (c .place-of-at .result) (c .place-of-at .ensures mk) (c .if-at-n .taken)));
       setup = refl;
     }
 
@@ -38,8 +38,8 @@ returns-then-is-claimed g c =
     let e = use-read ys (b .count) n (u .within) (u .same) at x (omega (arith, c .if-at-n .left)) (c .index-self-at .is) in
     record {
       step = λ mk. cancel-claimed (setup-of b) (view m mk b) (c .args .number) (row-view m mk x)
-        (found (row-view m mk) (c .args .number) (take (b .count) ys) at x (c .place-of-at .ensures mk) h ∙ ap (λ z. Some (row-view m mk z)) e)
-        (ap (λ z. claimed-in (z .state)) (c .index-self-at .is) ∙ sym (c .is-claimed .ensures) ∙ c .if-is-claimed .taken);
+          (found (row-view m mk) (c .args .number) (take (b .count) ys) at x (c .place-of-at .ensures mk) h ∙ ap (λ z. Some (row-view m mk z)) e)
+          (ap (λ z. claimed-in (z .state)) (c .index-self-at .is) ∙ sym (c .is-claimed .ensures) ∙ c .if-is-claimed .taken);
       setup = refl;
     }
 
@@ -60,13 +60,13 @@ returns g c =
     let front = lifted-front (take (n - 0) ys) xs part (postOf 0 (n - 0) ys) at n (part-use ys (b .count) n (u .within) (u .same)) (in-use ys (b .count) n (u .within) (u .same)) (omega (arith, c .if-at-n .left)) (c .lift .kept .rows) (c .lift .ensures) in
     record {
       step = λ mk.
-        let f = row-view m mk in
-        let place = c .place-of-at .ensures mk in
-        let free = ap (λ z. claimed-in (z .state)) (c .index-self-at .is) ∙ sym (c .is-claimed .ensures) ∙ c .if-is-claimed .left in
-        cancel-done (setup-of b) (view m mk b) k (f x) _
-        (found f k xs at x place h ∙ ap (λ z. Some (f z)) e)
-        free
-        (ap (rows-view m mk) front ∙ on-left f k xs at x place h (λ r. standing (row-after (b .limit .value) mk (cancelling k) r))
+          let f = row-view m mk in
+          let place = c .place-of-at .ensures mk in
+          let free = ap (λ z. claimed-in (z .state)) (c .index-self-at .is) ∙ sym (c .is-claimed .ensures) ∙ c .if-is-claimed .left in
+          cancel-done (setup-of b) (view m mk b) k (f x) _
+          (found f k xs at x place h ∙ ap (λ z. Some (f z)) e)
+          free
+          (ap (rows-view m mk) front ∙ on-left f k xs at x place h (λ r. standing (row-after (b .limit .value) mk (cancelling k) r))
           (ap (λ z. standing (row-after (b .limit .value) mk (cancelling k) (f z))) e
           ∙ turn-cancel (b .limit .value) mk k (f x) (ap (λ z. eqb k (f z .terms .number)) (sym e) ∙ numbered f k xs at x place h) free));
       setup = ap (λ l. record { rows = l; limit = b .limit .value; book = b .number }) (length-front ys part (n - 0) (c .lift .kept .rows));

@@ -22,9 +22,9 @@ returns-then-at-n g c =
     let k = c .args .number in
     record {
       step = λ mk.
-        let past = past-use (b .rows .now) (b .count) (c .used-n .result) (u .within) (u .same) (row-view m mk) k (c .place-of-at .result) (c .place-of-at .ensures mk) (c .if-at-n .taken) in
-        ap (λ t. (view m mk b, gives (right-of t))) (c .new .ensures)
-        ∙ claim-done (setup-of b) (view m mk b) k (view m mk b .rows) true
+          let past = past-use (b .rows .now) (b .count) (c .used-n .result) (u .within) (u .same) (row-view m mk) k (c .place-of-at .result) (c .place-of-at .ensures mk) (c .if-at-n .taken) in
+          ap (λ t. (view m mk b, gives (right-of t))) (c .new .ensures)
+          ∙ claim-done (setup-of b) (view m mk b) k (view m mk b .rows) true
           (sym (on-none k (λ r. standing (row-after (b .limit .value) mk (claiming k) r)) (view m mk b .rows) past))
           (sym (ap (λ r. not (holds claimable r)) (row-none k (view m mk b .rows) past)));
       unspent = ap (λ t. t .spent) (c .new .ensures);
@@ -46,16 +46,16 @@ returns g c =
     let h : at < length xs = omega (arith, in-use ys (b .count) n (u .within) (u .same), c .if-at-n .left) in
     let e = use-read ys (b .count) n (u .within) (u .same) at x (omega (arith, c .if-at-n .left)) (c .index-self-at .is) in
     let became : y ≡ with-state (getD xs at x) (claimed-state (getD xs at x .state)) =
-      c .claim-claimed .ensures .row ∙ ap (λ r. with-state r (claimed-state (r .state))) (sym (c .index-self-at .is) ∙ sym e) in
+    c .claim-claimed .ensures .row ∙ ap (λ r. with-state r (claimed-state (r .state))) (sym (c .index-self-at .is) ∙ sym e) in
     record {
       step = λ mk.
-        let f = row-view m mk in
-        let place = c .place-of-at .ensures mk in
-        ap (λ t. (record { market = mk; rows = rows-view m mk (take (b .count) (set ys at y)) }, gives (right-of t))) (c .new-2 .ensures)
-        ∙ claim-done (setup-of b) (view m mk b) k _ (not (c .claim-claimed .result))
+          let f = row-view m mk in
+          let place = c .place-of-at .ensures mk in
+          ap (λ t. (record { market = mk; rows = rows-view m mk (take (b .count) (set ys at y)) }, gives (right-of t))) (c .new-2 .ensures)
+          ∙ claim-done (setup-of b) (view m mk b) k _ (not (c .claim-claimed .result))
           (ap (rows-view m mk) (take-of-set (b .count) ys at y)
           ∙ on-set f k xs at x place h (λ r. standing (row-after (b .limit .value) mk (claiming k) r)) y
-            (turn-claim m mk (b .limit .value) k (getD xs at x) (numbered f k xs at x place h) ∙ ap (λ r. f r ∷ []) (sym became)))
+          (turn-claim m mk (b .limit .value) k (getD xs at x) (numbered f k xs at x place h) ∙ ap (λ r. f r ∷ []) (sym became)))
           (ap not (c .claim-claimed .ensures .claimed ∙ ap (λ r. waiting-in (r .state)) (sym (c .index-self-at .is) ∙ sym e) ∙ sym (claimable-by m mk (getD xs at x)) ∙ ap (holds claimable) (sym (found f k xs at x place h))));
       unspent = ap (λ t. t .spent) (c .new-2 .ensures);
       setup = ap (λ l. record { rows = l; limit = b .limit .value; book = b .number }) (length-set ys at y);

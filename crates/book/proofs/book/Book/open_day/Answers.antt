@@ -25,8 +25,8 @@ returns g c =
     let mk₂ = market-of (c .open-day .last .self .shares) in
     record {
       step = day-taken m (setup-of b) mk mk₂ o d (take (b .count) ys) _ (opened .answer) (opened .after) (opened .day)
-        (ap (rows-view m mk₂) (stays-front (take (n - 0) ys) (told .last .rows) (postOf 0 (n - 0) ys) (told .result) (told .ensures .within) (told .kept .rows))
-        ∙ told .ensures .table mk₂
-        ∙ ap (λ z. dayed-rows (o .share) d (rows-view m mk₂ z)) (part-use ys (b .count) n (u .within) (u .same)));
+          (ap (rows-view m mk₂) (stays-front (take (n - 0) ys) (told .last .rows) (postOf 0 (n - 0) ys) (told .result) (told .ensures .within) (told .kept .rows))
+          ∙ told .ensures .table mk₂
+          ∙ ap (λ z. dayed-rows (o .share) d (rows-view m mk₂ z)) (part-use ys (b .count) n (u .within) (u .same)));
       setup = ap (λ l. record { rows = l; limit = b .limit .value; book = b .number }) (length-front ys (told .last .rows) (n - 0) (told .kept .rows));
     }

@@ -26,8 +26,8 @@ returns-in-Break-day g c =
     let exit = c .from-residual-in-Break-day in
     record {
       step = bad-share (setup-of b) (view m mk b) o (exit .result) _ (exit .ensures .1)
-        (c .in-Continue-check-free .ensures tt mk)
-        (c .in-Break-day .ensures tt .answer);
+          (c .in-Continue-check-free .ensures tt mk)
+          (c .in-Break-day .ensures tt .answer);
       setup = refl {a = setup-of b};
     }
 
@@ -40,9 +40,9 @@ returns-in-Break-check-amounts g c =
     let exit = c .from-residual-in-Break-check-amounts in
     record {
       step = bad-amount (setup-of b) (view m mk b) o (exit .result) _ (exit .ensures .1)
-        (c .in-Continue-check-free .ensures tt mk)
-        (c .in-Continue-day .ensures tt .answer)
-        (c .in-Break-check-amounts .ensures tt);
+          (c .in-Continue-check-free .ensures tt mk)
+          (c .in-Continue-day .ensures tt .answer)
+          (c .in-Break-check-amounts .ensures tt);
       setup = refl {a = setup-of b};
     }
 
@@ -55,10 +55,10 @@ returns-in-Break-check-choice g c =
     let exit = c .from-residual-in-Break-check-choice in
     record {
       step = bad-choice (setup-of b) (view m mk b) o (exit .result) _ (exit .ensures .1)
-        (c .in-Continue-check-free .ensures tt mk)
-        (c .in-Continue-day .ensures tt .answer)
-        (c .in-Continue-check-amounts .ensures tt)
-        (c .in-Break-check-choice .ensures tt);
+          (c .in-Continue-check-free .ensures tt mk)
+          (c .in-Continue-day .ensures tt .answer)
+          (c .in-Continue-check-amounts .ensures tt)
+          (c .in-Break-check-choice .ensures tt);
       setup = refl {a = setup-of b};
     }
 
@@ -71,13 +71,13 @@ returns-then-not-tell-day g c =
     let d = c .in-Continue-day .day in
     record {
       step = lapses (setup-of b) (view m mk b) o
-        (c .in-Continue-check-free .ensures tt mk)
-        (c .in-Continue-day .ensures tt .answer)
-        (c .in-Continue-check-amounts .ensures tt)
-        (c .in-Continue-check-choice .ensures tt)
-        d
-        (c .in-Continue-day .ensures tt .day)
-        (leaves m mk (c .args .terms) (c .args .condition) d (row-view m mk (c .tell-day .last .self)) (c .new-row .result) (c .new-row .ensures) (c .tell-day .result) (c .if-not-tell-day .taken) (c .tell-day .ensures mk));
+          (c .in-Continue-check-free .ensures tt mk)
+          (c .in-Continue-day .ensures tt .answer)
+          (c .in-Continue-check-amounts .ensures tt)
+          (c .in-Continue-check-choice .ensures tt)
+          d
+          (c .in-Continue-day .ensures tt .day)
+          (leaves m mk (c .args .terms) (c .args .condition) d (row-view m mk (c .tell-day .last .self)) (c .new-row .result) (c .new-row .ensures) (c .tell-day .result) (c .if-not-tell-day .taken) (c .tell-day .ensures mk));
       setup = refl {a = setup-of b};
     }
 
@@ -107,14 +107,14 @@ returns g c =
     let room = room-left (setup-of b) (view m mk b) (c .args .terms .number) n (seen (row-view m mk) ys (b .count) n (u .within) (u .same)) (c .in-Continue-check-free .ensures tt mk) in
     record {
       step = granted (setup-of b) (view m mk b) o
-        (c .in-Continue-check-free .ensures tt mk)
-        (c .in-Continue-day .ensures tt .answer)
-        (c .in-Continue-check-amounts .ensures tt)
-        (c .in-Continue-check-choice .ensures tt)
-        d
-        (c .in-Continue-day .ensures tt .day)
-        _
-        (on .0)
-        (one-more (row-view m mk) ys (c .put .last .rows) (b .count) n row _ room (u .same) (c .put .ensures) (on .1));
+          (c .in-Continue-check-free .ensures tt mk)
+          (c .in-Continue-day .ensures tt .answer)
+          (c .in-Continue-check-amounts .ensures tt)
+          (c .in-Continue-check-choice .ensures tt)
+          d
+          (c .in-Continue-day .ensures tt .day)
+          _
+          (on .0)
+          (one-more (row-view m mk) ys (c .put .last .rows) (b .count) n row _ room (u .same) (c .put .ensures) (on .1));
       setup = ap (λ l. record { rows = l; limit = b .limit .value; book = b .number }) (c .put .kept .rows);
     }

@@ -37,7 +37,7 @@ returns-then-slips-watchers g c =
     let n = length (c .args .slips .now) in
     record {
       step = quote-crowded s q n (setup-of b) (c .in-Continue-check-quote .ensures tt)
-        (too-few s q n (c .watchers .result) (c .if-quote-eq-CONTINUOUS .taken) (c .watchers .ensures mk) (c .if-slips-watchers .taken));
+          (too-few s q n (c .watchers .result) (c .if-quote-eq-CONTINUOUS .taken) (c .watchers .ensures mk) (c .if-slips-watchers .taken));
       count = omega arith;
       rest = refl {a = c .args .slips .now};
       setup = refl {a = setup-of b};
@@ -53,8 +53,9 @@ returns-in-rest g c =
     let q = c .args .quote in
     let n = length (c .args .slips .now) in
     let free : crowds s q n ≡ false = elim (c .else-quote-eq-CONTINUOUS .came) [
-      else-quote-eq-CONTINUOUS·by·then-quote-eq-CONTINUOUS·else-slips-watchers w ↦ enough s q n (w .watchers .result) (w .watchers .ensures mk) (w .if-slips-watchers .left)
-    | else-quote-eq-CONTINUOUS·by·else-quote-eq-CONTINUOUS w ↦ none-told s q n (w .if-quote-eq-CONTINUOUS .left) ] in
+      | else-quote-eq-CONTINUOUS·by·then-quote-eq-CONTINUOUS·else-slips-watchers w ↦ enough s q n (w .watchers .result) (w .watchers .ensures mk) (w .if-slips-watchers .left)
+      | else-quote-eq-CONTINUOUS·by·else-quote-eq-CONTINUOUS w ↦ none-told s q n (w .if-quote-eq-CONTINUOUS .left)
+    ] in
     record {
       step = quote-silent m (setup-of b) mk mk₂ q n (take (b .count) (b .rows .now)) (c .in-Continue-check-quote .ensures tt) (c .keep-quote .ensures) free (c .in-rest .ensures tt);
       count = omega arith;
@@ -77,12 +78,13 @@ returns g c =
     let same = part-use ys (b .count) (c .used-n .result) (u .within) (u .same) in
     let told = c .tell-tick-quoted in
     let free : crowds s q (length ps) ≡ false = elim (c .else-quote-eq-CONTINUOUS .came) [
-      else-quote-eq-CONTINUOUS·by·then-quote-eq-CONTINUOUS·else-slips-watchers w ↦ enough s q (length ps) (w .watchers .result) (w .watchers .ensures mk) (w .if-slips-watchers .left)
-    | else-quote-eq-CONTINUOUS·by·else-quote-eq-CONTINUOUS w ↦ none-told s q (length ps) (w .if-quote-eq-CONTINUOUS .left) ] in
+      | else-quote-eq-CONTINUOUS·by·then-quote-eq-CONTINUOUS·else-slips-watchers w ↦ enough s q (length ps) (w .watchers .result) (w .watchers .ensures mk) (w .if-slips-watchers .left)
+      | else-quote-eq-CONTINUOUS·by·else-quote-eq-CONTINUOUS w ↦ none-told s q (length ps) (w .if-quote-eq-CONTINUOUS .left)
+    ] in
     let z = quote-ticked m (setup-of b) mk mk₂ q (length ps) (take (b .count) ys) (c .in-Continue-check-quote .ensures tt) (c .keep-quote .ensures) free (c .in-Some .tick) (c .in-Some .ensures tt) (take j ys) same
-      (take (told .result .stay) (told .last .rows ++ postOf 0 j ys)) (told .result .written) (told .last .slips) (drop (told .result .written) ps)
-      (ap (rows-view m mk₂) (stays-front (take j ys) (told .last .rows) (postOf 0 j ys) (told .result .stay) (told .ensures .within) (told .kept .rows)) ∙ told .ensures .table)
-      (told .ensures .written) (told .ensures .slips)
+    (take (told .result .stay) (told .last .rows ++ postOf 0 j ys)) (told .result .written) (told .last .slips) (drop (told .result .written) ps)
+    (ap (rows-view m mk₂) (stays-front (take j ys) (told .last .rows) (postOf 0 j ys) (told .result .stay) (told .ensures .within) (told .kept .rows)) ∙ told .ensures .table)
+    (told .ensures .written) (told .ensures .slips)
     in
     record {
       step = z .0;

@@ -23,7 +23,7 @@ returns-then-at-n g c =
     let t : Ticket = record { void = false; book = b .number; number = c .args .number } in
     record {
       step = λ mk. settle-unclaimed (setup-of b) (view m mk b) t (c .args .fill) refl (eq-eqb (b .number) (b .number) refl)
-        (ap (holds (λ r. r .claimed)) (row-none (c .args .number) (view m mk b .rows) (past-use (b .rows .now) (b .count) (c .used-n .result) (u .within) (u .same) (row-view m mk) (c .args .number) (c .place-of-at .result) (c .place-of-at .ensures mk) (c .if-at-n .taken))));
+          (ap (holds (λ r. r .claimed)) (row-none (c .args .number) (view m mk b .rows) (past-use (b .rows .now) (b .count) (c .used-n .result) (u .within) (u .same) (row-view m mk) (c .args .number) (c .place-of-at .result) (c .place-of-at .ensures mk) (c .if-at-n .taken))));
       setup = refl;
     }
 
@@ -44,8 +44,8 @@ returns-then-not-is-claimed g c =
     let e = use-read ys (b .count) n (u .within) (u .same) at x (omega (arith, c .if-at-n .left)) (c .index-self-at .is) in
     record {
       step = λ mk. settle-unclaimed (setup-of b) (view m mk b) t (c .args .fill) refl own
-        (ap (holds (λ r. r .claimed)) (found (row-view m mk) k xs at x (c .place-of-at .ensures mk) h)
-        ∙ ap (λ z. claimed-in (z .state)) (e ∙ c .index-self-at .is) ∙ sym (c .is-claimed .ensures) ∙ c .if-not-is-claimed .taken);
+          (ap (holds (λ r. r .claimed)) (found (row-view m mk) k xs at x (c .place-of-at .ensures mk) h)
+          ∙ ap (λ z. claimed-in (z .state)) (e ∙ c .index-self-at .is) ∙ sym (c .is-claimed .ensures) ∙ c .if-not-is-claimed .taken);
       setup = refl;
     }
 
@@ -69,13 +69,13 @@ returns-then-settle g c =
     let y = c .settle .last .self in
     record {
       step = λ mk.
-        let f = row-view m mk in
-        let place = c .place-of-at .ensures mk in
-        settle-done (setup-of b) (view m mk b) t (c .args .fill) _ refl own
-        (ap (holds (λ r. r .claimed)) (found f k xs at x place h)
-        ∙ ap (λ z. claimed-in (z .state)) (e ∙ c .index-self-at .is) ∙ sym (c .is-claimed .ensures) ∙ c .if-not-is-claimed .left)
-        (ap (rows-view m mk) (take-of-set (b .count) ys at y)
-        ∙ on-set f k xs at x₂ place h (λ r. standing (row-after (b .limit .value) mk (settling t (c .args .fill)) r)) y
+          let f = row-view m mk in
+          let place = c .place-of-at .ensures mk in
+          settle-done (setup-of b) (view m mk b) t (c .args .fill) _ refl own
+          (ap (holds (λ r. r .claimed)) (found f k xs at x place h)
+          ∙ ap (λ z. claimed-in (z .state)) (e ∙ c .index-self-at .is) ∙ sym (c .is-claimed .ensures) ∙ c .if-not-is-claimed .left)
+          (ap (rows-view m mk) (take-of-set (b .count) ys at y)
+          ∙ on-set f k xs at x₂ place h (λ r. standing (row-after (b .limit .value) mk (settling t (c .args .fill)) r)) y
           (ap standing (turn-settle (b .limit .value) mk t (c .args .fill) (f (getD xs at x₂)) (numbered f k xs at x₂ place h))
           ∙ ap (λ z. standing (settled-row (c .args .fill) (f z))) (e₂ ∙ c .index-self-at-2 .is)
           ∙ kept-yes (c .settle .result) (f y) _ (c .settle .ensures mk) (c .if-settle .taken)));
@@ -105,13 +105,13 @@ returns g c =
     let lefts = lifted-set ys (b .count) n (u .within) (u .same) at y part (omega (arith, c .if-at-n .left)) (c .lift .kept .rows) (c .lift .ensures) in
     record {
       step = λ mk.
-        let f = row-view m mk in
-        let place = c .place-of-at .ensures mk in
-        settle-done (setup-of b) (view m mk b) t (c .args .fill) _ refl own
-        (ap (holds (λ r. r .claimed)) (found f k xs at x place h)
-        ∙ ap (λ z. claimed-in (z .state)) (e ∙ c .index-self-at .is) ∙ sym (c .is-claimed .ensures) ∙ c .if-not-is-claimed .left)
-        (ap (rows-view m mk) lefts
-        ∙ on-left f k xs at x₂ place h (λ r. standing (row-after (b .limit .value) mk (settling t (c .args .fill)) r))
+          let f = row-view m mk in
+          let place = c .place-of-at .ensures mk in
+          settle-done (setup-of b) (view m mk b) t (c .args .fill) _ refl own
+          (ap (holds (λ r. r .claimed)) (found f k xs at x place h)
+          ∙ ap (λ z. claimed-in (z .state)) (e ∙ c .index-self-at .is) ∙ sym (c .is-claimed .ensures) ∙ c .if-not-is-claimed .left)
+          (ap (rows-view m mk) lefts
+          ∙ on-left f k xs at x₂ place h (λ r. standing (row-after (b .limit .value) mk (settling t (c .args .fill)) r))
           (ap standing (turn-settle (b .limit .value) mk t (c .args .fill) (f (getD xs at x₂)) (numbered f k xs at x₂ place h))
           ∙ ap (λ z. standing (settled-row (c .args .fill) (f z))) (e₂ ∙ c .index-self-at-2 .is)
           ∙ kept-no (c .settle .result) (f y) _ (c .settle .ensures mk) (c .if-settle .left)));
