@@ -5,7 +5,7 @@ use Rattle.rules.specs.Book.{Setup, State, new, step}
 use Rattle.rules.specs.Calls.{Call, Reply}
 use Rattle.rules.specs.Law.{Lawful}
 use Rattle.rules.specs.Trace.{Entry, entry, trace, state-by}
-use Rattle.rules.proofs.Laws.{lawful}
+use Rattle.rules.proofs.Laws.{lawful, independent}
 use Rattle.book.specs.Carrying.{Extends, Carried}
 
 state-more : (su : Setup) (s : State) (cs : List Call) (c : Call) → state-by su s (cs ++ c ∷ []) ≡ step su (state-by su s cs) c .0
@@ -28,5 +28,6 @@ carried su s s′ c r e =
             leaves = ap (λ x. x .0) (e ∙ at) ∙ sym (state-more su new cs c);
             answers = told;
             lawful = subst (Lawful su) told (lawful su (cs ++ c ∷ []));
+            independent = independent;
           };
     }

@@ -24,7 +24,7 @@ use Rattle.rules.specs.Trace.{Entry, entry, trace, slips-in}
 use Rattle.rules.specs.declared.fault.MarketFault.{MarketFault}
 use Rattle.rules.specs.declared.fault.PlacingFault.{PlacingFault}
 use Rattle.rules.specs.declared.slip.Slip.{Slip}
-use Rattle.rules.proofs.Laws.{lawful}
+use Rattle.rules.proofs.Laws.{lawful, independent}
 use Rattle.replay.specs.Replaying.{Point, point, rights, call-of, held-after, answered, after, unfilled, outcomes, made-list, entries, short, reply-of, slips-of, count-of, Turned, Passed, Replays}
 use Rattle.book.specs.View.{right-of, day-reply, done-reply}
 use Rattle.replay.specs.declared.run.Reply.{Reply as Answer}
@@ -309,4 +309,5 @@ replays {C} {means} {su₀} {su} {qs} {s₀} {s} {ts₀} {ts} {n} {rs₀} {rs} {
       rest = p .rest;
       run = run;
       lawful = subst (Lawful su₀) run (lawful su₀ (map (λ (x : Entry). x .call) (joined made-list all)));
+      independent = independent;
     }

@@ -13,7 +13,7 @@ use Rattle.conditions.specs.Meaning.{Meaning}
 use Rattle.rules.specs.Book.{Setup, State, new, step}
 use Rattle.rules.specs.Calls.{listing, opening, placing, quoting, cancelling, claiming, settling, asking, Call, single, burst, by-market, by-book, Reply, done, wrote, burst-wrote, gives, in-state, refused}
 use Rattle.rules.specs.Calls.{Ticket as Right}
-use Rattle.rules.specs.Law.{Lawful}
+use Rattle.rules.specs.Law.{Lawful, Independent}
 use Rattle.rules.specs.Trace.{Entry, entry, trace, slips-in}
 use Rattle.rules.specs.declared.slip.Slip.{Slip}
 use Rattle.book.specs.View.{right-of}
@@ -140,7 +140,7 @@ pub record Passed {C : Type 0} (means : C → Meaning) (su : Setup) (p : Point) 
   pub rest : drop n ps′ ≡ drop n ps
 
 -- A whole replay on a new book and market: the replies are what the requests come to, the slips that were written are all slips of the
--- calls in their order, and the calls with their answers are a run that keeps the whole law.
+-- calls in their order, and the calls with their answers are a run that keeps the whole law, independent of every other run.
 pub record Replays {C : Type 0} (means : C → Meaning) (su : Setup) (qs : List (Request C)) (rs : List Answer) (n : ℕ) (ps ps′ : List Slip) : Type 0 where
   pub replies : rs ≡ map reply-of (outcomes means su (point new [] (length ps)) qs)
   pub slips : take n ps′ ≡ joined (λ x. slips-in (x .reply)) (entries means su (point new [] (length ps)) qs)
@@ -148,3 +148,4 @@ pub record Replays {C : Type 0} (means : C → Meaning) (su : Setup) (qs : List 
   pub rest : drop n ps′ ≡ drop n ps
   pub run : trace su new (map (λ x. x .call) (entries means su (point new [] (length ps)) qs)) ≡ entries means su (point new [] (length ps)) qs
   pub lawful : Lawful su (entries means su (point new [] (length ps)) qs)
+  pub independent : Independent
