@@ -1,4 +1,6 @@
 // The book of clients' conditional orders: who stands in it, who is told what, and the slips that are written.
+#![tactic(auto)]
+
 pub mod book;
 pub mod burst;
 pub mod desk;

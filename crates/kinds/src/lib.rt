@@ -1,4 +1,6 @@
 // The order kinds, each a condition whose meaning is the kind's definition.
+#![tactic(auto)]
+
 pub mod batch;
 pub mod book_kinds;
 pub mod grid;

@@ -1,4 +1,6 @@
 // The market and the book of clients' conditional orders: their plain types, what they mean, and the law of every run.
+#![tactic(auto)]
+
 pub mod fault;
 pub mod law;
 pub mod opening;

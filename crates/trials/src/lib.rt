@@ -1,5 +1,7 @@
 // Worked prices and edges of the checked numbers, the kinds, the layers and the desks, as tests. They stand apart from the crates
 // that they try, since a crate with tests is proved twice.
+#![tactic(auto)]
+
 #[cfg(test)]
 mod decimals;
 #[cfg(test)]

@@ -1,4 +1,6 @@
 // Reads a trading day as text, makes every call in the order of the lines, and prints every answer.
+#![tactic(auto)]
+
 mod answering;
 mod cutting;
 mod house;

@@ -1,4 +1,6 @@
 // The checked numbers of the trade, the two directions in which a price can go, and prices as text.
+#![tactic(auto)]
+
 pub mod days;
 pub mod decimal;
 pub mod direction;

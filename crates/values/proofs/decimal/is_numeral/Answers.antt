@@ -11,9 +11,9 @@ returns-then-not-is-ascii-digit c =
 
 pub loop-b-preserved : goal.loop-b-preserved
 loop-b-preserved c =
-    sym (digits_more c.as-bytes-b-items.result.now c.loop-b.b-index c.loop-b-test.true (sym c.if-not-is-ascii-digit.ensures.value)) ∙ c.loop-b.invariant
+    sym (digits_more c.as_bytes-b-items.result.now c.loop-b.b-index c.loop-b-test.true (sym c.if-not-is_ascii_digit.ensures.value)) ∙ c.loop-b.invariant
 
 pub returns : goal.returns
 returns c =
-    let all = sym c.loop-b.invariant ∙ at_drop_all all_ascii_digits c.as-bytes-b-items.result.now c.loop-b.b-index c.loop-b-test.false in
-    ap not c.is-empty.ensures ∙ digits_numeral c.args.text.now (sym (ap all_ascii_digits c.as-bytes-b-items.ensures.value) ∙ all)
+    let all = sym c.loop-b.invariant ∙ at_drop_all all_ascii_digits c.as_bytes-b-items.result.now c.loop-b.b-index c.loop-b-test.false in
+    ap not c.is_empty.ensures ∙ digits_numeral c.args.text.now (sym (ap all_ascii_digits c.as_bytes-b-items.ensures.value) ∙ all)

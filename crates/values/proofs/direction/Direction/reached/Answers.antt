@@ -18,8 +18,8 @@ invariant-of-result g c =
 pub returns-then-reaches : goal.returns-then-reaches
 returns-then-reaches g c =
     let order = g.Self.Direction.order in
-    let hit : true ≡ order c.target-of-goal.result c.args.price.value = c.if-reaches.ensures in
+    let hit : true ≡ order c.target_of-goal.result c.args.price.value = c.if-reaches.ensures in
     record {
-      value = reached_at order g.Self.Direction.target c.args.step c.args.base c.args.price _ c.target-of-goal.ensures hit;
-      found = hit ∙ ap (λ n. order n c.args.price.value) c.target-of-goal.ensures;
+      value = reached_at order g.Self.Direction.target c.args.step c.args.base c.args.price _ c.target_of-goal.ensures hit;
+      found = hit ∙ ap (λ n. order n c.args.price.value) c.target_of-goal.ensures;
     }

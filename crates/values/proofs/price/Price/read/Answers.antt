@@ -19,6 +19,6 @@ returns-in-err-price c =
 pub returns : goal.returns
 returns c =
     let text = c.args.text.now in
-    let price = c.in-ok-price.price in
-    let e = is_read text c.in-ok-value.value c.in-ok-value.ensures.value (Ok price) c.in-ok-price.ensures in
+    let price = c.in_ok-price.price in
+    let e = is_read text c.in_ok-value.value c.in_ok-value.ensures.value (Ok price) c.in_ok-price.ensures in
     record { value = e; back = reads text (Ok price) e }
