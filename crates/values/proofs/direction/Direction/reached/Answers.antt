@@ -3,17 +3,17 @@ use Rattle.std.proofs.Common.{◌≡◌, true, sym, ap, ◌∙◌}
 use Rattle.values.proofs.Pricing.{reached_at}
 use Rattle.values.proofs.direction.Direction.reached.Goals as goal
 
-pub invariant-of-result : goal.invariant-of-result
-invariant-of-result g c =
+pub invariant_of-result : goal.invariant_of-result
+invariant_of-result g c =
     let base = c.args.base in
     let order = g.Self.Direction.order in
-    let goal = c.target-of-goal.result in
+    let goal = c.target_of-goal.result in
     let past : order base.value goal ≡ true =
-    ap (order base.value) c.target-of-goal.ensures ∙ (g.met.Self.Direction.beyond c.args.step base).past
+    ap (order base.value) c.target_of-goal.ensures ∙ (g.met.Self.Direction.beyond c.args.step base).past
     in
     let hit : order goal c.args.price.value ≡ true = sym {a = true} {b = order goal c.args.price.value} c.if-reaches.ensures in
     let ends = g.met.Self.Direction.between base c.args.price goal past hit in
-    (ends.0, (ends.1, tt))
+    record { low = ends.0; high = ends.1 }
 
 pub returns-then-reaches : goal.returns-then-reaches
 returns-then-reaches g c =

@@ -5,14 +5,14 @@ use Rattle.values.specs.PriceText.{price_read}
 use Rattle.values.specs.declared.price.text.PriceTextFault.TheVariants as fault
 use Rattle.values.proofs.price.Price.read.Goals as goal
 
-pub returns-in-err-price : goal.returns-in-err-price
-returns-in-err-price c =
-    let exit = c.from-residual-in-err-price in
+pub returns-in_err-price : goal.returns-in_err-price
+returns-in_err-price c =
+    let exit = c.from_residual-in_err-price in
     let p = err_from_is_err_and exit.result exit.ensures.1 in
-    let f = c.in-err-price.field-0.0 in
+    let f = c.in_err-price.field-0.0 in
     let text = c.args.text.now in
     let e : exit.result ≡ price_read text =
-    p.1 ∙ ap Err p.2 ∙ is_read text c.in-ok-value.value c.in-ok-value.ensures.value (Err f) c.in-err-price.ensures
+    p.1 ∙ ap Err p.2 ∙ is_read text c.in_ok-value.value c.in_ok-value.ensures.value (Err f) c.in_err-price.ensures
     in
     record { value = e; back = reads text exit.result e }
 
