@@ -9,9 +9,9 @@ returns g c =
     let bounds = c.args.bounds in
     let below = g.C.Condition.meaning c.args.below in
     let w = c.whole.result in
-    let range : c.unwrap-or-bounds.result.range ≡ span_or bounds = ap (λ b. b.range) c.unwrap-or-bounds.ensures ∙ span_is bounds w c.whole.ensures in
-    let switch : c.unwrap-or-bounds.result.switch ≡ switch_or bounds = ap (λ b. b.switch) c.unwrap-or-bounds.ensures ∙ switch_is bounds w in
+    let range : c.unwrap_or-bounds.result.range ≡ span_or bounds = ap (λ b. b.range) c.unwrap_or-bounds.ensures ∙ span_is bounds w c.whole.ensures in
+    let switch : c.unwrap_or-bounds.result.switch ≡ switch_or bounds = ap (λ b. b.switch) c.unwrap_or-bounds.ensures ∙ switch_is bounds w in
     record {
-      means = c.new-2.ensures ∙ (λ i. until (c.last-day.ensures i) ((c.new.ensures ∙ (λ j. in_range (range j) (switch j) below)) i));
+      means = c.new-2.ensures ∙ (λ i. until (c.last_day.ensures i) ((c.new.ensures ∙ (λ j. in_range (range j) (switch j) below)) i));
       lawful = piles_lawful;
     }
