@@ -4,4 +4,4 @@ use Rattle.kinds.proofs.Leasts.{least_is_least}
 use Rattle.kinds.proofs.making.fall_back_sell.Goals as goal
 
 pub returns : goal.returns
-returns c = record { means = c.fall-back-sell.ensures; least = least_is_least falling_order falling_total }
+returns c = record { means = c.fall_back_sell.ensures; least = least_is_least falling_order falling_total }

@@ -4,4 +4,4 @@ use Rattle.kinds.proofs.Leasts.{least_is_least}
 use Rattle.kinds.proofs.making.rebound_buy.Goals as goal
 
 pub returns : goal.returns
-returns c = record { means = c.rebound-buy.ensures; least = least_is_least rising_order rising_total }
+returns c = record { means = c.rebound_buy.ensures; least = least_is_least rising_order rising_total }

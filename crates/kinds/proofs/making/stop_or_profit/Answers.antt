@@ -10,9 +10,9 @@ pub returns : goal.returns
 returns c =
     let base = c.args.base in
     let low : priced (falling_target c.args.stop base.value) ≡ Some c.in-Ok.low =
-    ap priced (sym c.target-of.ensures) ∙ priced_made c.target-of.result c.in-Ok.low c.in-Ok.ensures
+    ap priced (sym c.target_of.ensures) ∙ priced_made c.target_of.result c.in-Ok.low c.in-Ok.ensures
     in
     let high : priced (rising_target c.args.profit base.value) ≡ Some c.in-Ok-new.high =
-    ap priced (sym c.target-of-2.ensures) ∙ priced_made c.target-of-2.result c.in-Ok-new.high c.in-Ok-new.ensures
+    ap priced (sym c.target_of-2.ensures) ∙ priced_made c.target_of-2.result c.in-Ok-new.high c.in-Ok-new.ensures
     in
-    ap Ok (c.new-3.ensures ∙ (λ i. either (c.level.ensures i) (c.profit-at.ensures i))) ∙ (λ i. exit_at (sym low i) (sym high i) c.args.trail)
+    ap Ok (c.new-3.ensures ∙ (λ i. either (c.level.ensures i) (c.profit_at.ensures i))) ∙ (λ i. exit_at (sym low i) (sym high i) c.args.trail)

@@ -7,17 +7,17 @@ pub returns-then-long : goal.returns-then-long
 returns-then-long g c =
     let s = c.args.self.now in
     let t = c.in-Tick.t in
-    let z = turn (g.T.Test.trigger s.test) s.hold.seconds s.side s.day s.since c.args.event c.in-Some.day t c.judge-trigger.result c.since-next-self.result true c.in-Some.is c.in-Tick.is c.judge-trigger.ensures c.if-long.ensures
-    (c.since-next-self.ensures ∙ ap (since_next s.since t.moment) c.is-some.ensures)
+    let z = turn (g.T.Test.trigger s.test) s.hold.seconds s.side s.day s.since c.args.event c.in-Some.day t c.judge-trigger.result c.since_next-self.result true c.in-Some.is c.in-Tick.is c.judge-trigger.ensures c.if-long.ensures
+    (c.since_next-self.ensures ∙ ap (since_next s.since t.moment) c.is_some.ensures)
     in
-    record { answers = c.over-at.ensures ∙ z.0; follows = z.1 }
+    record { answers = c.over_at.ensures ∙ z.0; follows = z.1 }
 
 pub returns-else-long : goal.returns-else-long
 returns-else-long g c =
     let s = c.args.self.now in
     let t = c.in-Tick.t in
-    let z = turn (g.T.Test.trigger s.test) s.hold.seconds s.side s.day s.since c.args.event c.in-Some.day t c.judge-trigger.result c.since-next-self.result false c.in-Some.is c.in-Tick.is c.judge-trigger.ensures c.if-long.ensures
-    (c.since-next-self.ensures ∙ ap (since_next s.since t.moment) c.is-some.ensures)
+    let z = turn (g.T.Test.trigger s.test) s.hold.seconds s.side s.day s.since c.args.event c.in-Some.day t c.judge-trigger.result c.since_next-self.result false c.in-Some.is c.in-Tick.is c.judge-trigger.ensures c.if-long.ensures
+    (c.since_next-self.ensures ∙ ap (since_next s.since t.moment) c.is_some.ensures)
     in
     record { answers = z.0; follows = z.1 }
 
