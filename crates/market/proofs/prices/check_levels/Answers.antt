@@ -7,20 +7,20 @@ use Rattle.rules.specs.Market.{level_check}
 use Rattle.market.proofs.Checking.{all_pass, one_stops, price_passes}
 use Rattle.market.proofs.prices.check_levels.Goals as goal
 
-pub returns-in-err-check-each : goal.returns-in-err-check-each
-returns-in-err-check-each c =
+pub returns-in_err-check_each : goal.returns-in_err-check_each
+returns-in_err-check_each c =
     let v = c.args.levels in
-    let p = err_from_is_err_and c.from-residual-in-err-check-each.result c.from-residual-in-err-check-each.ensures.1 in
+    let p = err_from_is_err_and c.from_residual-in_err-check_each.result c.from_residual-in_err-check_each.ensures.1 in
     ap result_err p.1
     ∙ ap Some p.2
-    ∙ sym (one_stops (map level_check v.bids) (map level_check v.asks) _ c.in-err-check-each.ensures)
+    ∙ sym (one_stops (map level_check v.bids) (map level_check v.asks) _ c.in_err-check_each.ensures)
     ∙ sym (ap first_fault (map-append level_check v.bids v.asks))
-    ∙ sym (price_passes v.last _ (map level_check (v.bids ++ v.asks)) c.in-ok-price-of.ensures)
+    ∙ sym (price_passes v.last _ (map level_check (v.bids ++ v.asks)) c.in_ok-price_of.ensures)
 
 pub returns : goal.returns
 returns c =
     let v = c.args.levels in
-    c.check-each-2.ensures
-    ∙ sym (all_pass (map level_check v.bids) (map level_check v.asks) c.in-ok-check-each.ensures)
+    c.check_each-2.ensures
+    ∙ sym (all_pass (map level_check v.bids) (map level_check v.asks) c.in_ok-check_each.ensures)
     ∙ sym (ap first_fault (map-append level_check v.bids v.asks))
-    ∙ sym (price_passes v.last _ (map level_check (v.bids ++ v.asks)) c.in-ok-price-of.ensures)
+    ∙ sym (price_passes v.last _ (map level_check (v.bids ++ v.asks)) c.in_ok-price_of.ensures)

@@ -7,20 +7,20 @@ use Rattle.rules.specs.Market.{price_check, closes_of}
 use Rattle.market.proofs.Checking.{price_passes, price_stops, close_first}
 use Rattle.market.proofs.prices.copy_prices.Goals as goal
 
-pub returns-in-err-row : goal.returns-in-err-row
-returns-in-err-row c =
+pub returns-in_err-row : goal.returns-in_err-row
+returns-in_err-row c =
     let ns = c.args.closes.now in
     let i = c.loop-i.i in
-    let p = err_from_is_err_and c.from-residual.result c.from-residual.ensures.1 in
+    let p = err_from_is_err_and c.from_residual.result c.from_residual.ensures.1 in
     let m = at_drop_more (λ xs. first_fault (map price_check xs)) ns i 0 c.loop-i-test.true in
     record {
       answer =
           ap result_err p.1
           ∙ ap Some p.2
-          ∙ sym (price_stops (get_or ns i 0) _ (map price_check (drop (i + 1) ns)) c.in-err-row.ensures)
+          ∙ sym (price_stops (get_or ns i 0) _ (map price_check (drop (i + 1) ns)) c.in_err-row.ensures)
           ∙ sym m
           ∙ c.loop-i.invariant.0;
-      copied = MatchResult-from_err c.from-residual.result _ _ c.from-residual.ensures.0 (λ _. tt);
+      copied = MatchResult-from_err c.from_residual.result _ _ c.from_residual.ensures.0 (λ _. tt);
     }
 
 pub loop-i-preserved : goal.loop-i-preserved
@@ -28,9 +28,9 @@ loop-i-preserved c =
     let ns = c.args.closes.now in
     let row = c.loop-i.row in
     let i = c.loop-i.i in
-    let p = c.in-ok-row.field-0 in
+    let p = c.in_ok-row.field-0 in
     let rest = drop (i + 1) ns in
-    let made = c.in-ok-row.ensures in
+    let made = c.in_ok-row.ensures in
     let m = at_drop_more (λ xs. first_fault (map price_check xs)) ns i 0 c.loop-i-test.true in
     let k = at_drop_more closes_of ns i 0 c.loop-i-test.true in
     let l : i < length row = omega (arith, c.loop-i-test.true, c.requires, c.loop-i.auto.row) in

@@ -6,4 +6,4 @@ use Rattle.rules.specs.declared.fault.MarketFault.TheVariants as fault
 use Rattle.market.proofs.prices.price_of.Goals as goal
 
 pub returns : goal.returns
-returns c = ap (λ o. ok_or o (fault.Making making.Price)) (sym (priced_made c.args.number _ c.in-ok-new.ensures))
+returns c = ap (λ o. ok_or o (fault.Making making.Price)) (sym (priced_made c.args.number _ c.in_ok-new.ensures))

@@ -5,6 +5,6 @@ use Rattle.market.proofs.market.Market.check_share.Goals as goal
 
 pub returns : goal.returns
 returns c =
-    let n = c.if-share-gt-GREATEST-SHARE.false in
+    let n = c.if-share-gt-GREATEST_SHARE.false in
     let l : c.args.share < length c.args.self.now.shares = search rules in
-    c.check-listed.ensures ∙ ap listed_refusal (at_view _ _ _ n l) ∙ within _ _ _ n
+    c.check_listed.ensures ∙ ap listed_refusal (at_view _ _ _ n l) ∙ within _ _ _ n

@@ -3,10 +3,10 @@ use Rattle.rules.specs.Market.{day_of}
 use Rattle.market.proofs.Views.{at_view, past_view}
 use Rattle.market.proofs.market.Market.day_of.Goals as goal
 
-pub returns-then-share-gt-GREATEST-SHARE : goal.returns-then-share-gt-GREATEST-SHARE
-returns-then-share-gt-GREATEST-SHARE c = sym (ap day_of (past_view c.args.self.now.shares c.args.share c.if-share-gt-GREATEST-SHARE.true))
+pub returns-then-share-gt-GREATEST_SHARE : goal.returns-then-share-gt-GREATEST_SHARE
+returns-then-share-gt-GREATEST_SHARE c = sym (ap day_of (past_view c.args.self.now.shares c.args.share c.if-share-gt-GREATEST_SHARE.true))
 
 pub returns : goal.returns
 returns c =
     let l : c.args.share < length c.args.self.now.shares = search rules in
-    c.day.ensures ∙ ap day_of (at_view _ _ _ c.if-share-gt-GREATEST-SHARE.false l)
+    c.day.ensures ∙ ap day_of (at_view _ _ _ c.if-share-gt-GREATEST_SHARE.false l)

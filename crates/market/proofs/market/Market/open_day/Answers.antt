@@ -7,10 +7,10 @@ use Rattle.market.proofs.market.Market.open_day.Goals as goal
 pub returns : goal.returns
 returns c =
     let o = c.args.opening in
-    let n = c.if-opening-gt-GREATEST-SHARE.false in
+    let n = c.if-opening-gt-GREATEST_SHARE.false in
     let l : o.share < length c.args.self.now.shares = search rules in
     record {
-      answer = c.open-day.ensures.answer ∙ ap (λ s. opening_refusal s o) (at_view _ _ _ n l) ∙ within _ _ _ n;
-      after = lent_view c.open-day.result (opened o) _ _ _ _ n l c.open-day.ensures.after;
-      day = c.open-day.ensures.day ∙ ap (λ s. when_granted c.open-day.result (day_of s) None) (sym (back_view _ _ _ n l));
+      answer = c.open_day.ensures.answer ∙ ap (λ s. opening_refusal s o) (at_view _ _ _ n l) ∙ within _ _ _ n;
+      after = lent_view c.open_day.result (opened o) _ _ _ _ n l c.open_day.ensures.after;
+      day = c.open_day.ensures.day ∙ ap (λ s. when_granted c.open_day.result (day_of s) None) (sym (back_view _ _ _ n l));
     }
