@@ -13,8 +13,8 @@ keep-stay-requires g c = record { behind = (c.loop-i.invariant unlisted).behind;
 pub loop-i-preserved : goal.loop-i-preserved
 loop-i-preserved g c mk =
     let h : c.loop-i.i < length c.loop-i.rows = omega arith in
-    turned_more c.keep-stay.new.rows c.keep-stay.result c.index-rows-i.result c.tell-day-stays.new.self c.tell-day-stays.result (c.loop-i.invariant mk) h
-    (c.tell-day-stays.ensures mk) c.keep-stay.ensures.next c.keep-stay.ensures.front c.keep-stay.ensures.rest
+    turned_more c.keep-stay.new.rows c.keep-stay.result c.index-rows-i.result c.tell_day-stays.new.self c.tell_day-stays.result (c.loop-i.invariant mk) h
+    (c.tell_day-stays.ensures mk) c.keep-stay.ensures.next c.keep-stay.ensures.front c.keep-stay.ensures.rest
 
 pub returns : goal.returns
 returns g c =

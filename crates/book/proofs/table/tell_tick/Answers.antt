@@ -15,7 +15,7 @@ loop-i-init g c =
 pub write-written-requires : goal.write-written-requires
 write-written-requires g c =
     let h : c.loop-i.i < length c.loop-i.rows = omega arith in
-    let r = roomy c.index-rows-i.result (slip_list c.tell-tick-told.result.slip) c.loop-i.invariant h c.tell-tick-told.ensures.slips in
+    let r = roomy c.index-rows-i.result (slip_list c.tell_tick-told.result.slip) c.loop-i.invariant h c.tell_tick-told.ensures.slips in
     omega arith
 
 pub keep-stay-requires : goal.keep-stay-requires
@@ -25,8 +25,8 @@ pub loop-i-preserved : goal.loop-i-preserved
 loop-i-preserved g c =
     let h : c.loop-i.i < length c.loop-i.rows = omega arith in
     passing_more c.keep-stay.new.rows c.write-written.new.slips c.keep-stay.result c.write-written.result
-    c.index-rows-i.result c.tell-tick-told.new.self c.tell-tick-told.result.stays (slip_list c.tell-tick-told.result.slip) c.loop-i.invariant h
-    c.tell-tick-told.ensures.row c.tell-tick-told.ensures.slips
+    c.index-rows-i.result c.tell_tick-told.new.self c.tell_tick-told.result.stays (slip_list c.tell_tick-told.result.slip) c.loop-i.invariant h
+    c.tell_tick-told.ensures.row c.tell_tick-told.ensures.slips
     c.write-written.ensures.next c.write-written.ensures.written c.write-written.ensures.rest
     c.keep-stay.ensures.next c.keep-stay.ensures.front c.keep-stay.ensures.rest
 

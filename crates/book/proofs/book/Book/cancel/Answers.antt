@@ -15,25 +15,25 @@ returns-then-at-n g c =
     let u = c.used-n.ensures in
     record {
       step = λ mk. cancel_absent (setup_of b) (view m mk b) c.args.number
-          (row_none c.args.number (view m mk b).rows (past_use b.rows.now b.count c.used-n.result u.within u.same (row_view m mk) c.args.number c.place-of-at.result (c.place-of-at.ensures mk) c.if-at-n.true));
+          (row_none c.args.number (view m mk b).rows (past_use b.rows.now b.count c.used-n.result u.within u.same (row_view m mk) c.args.number c.place_of-at.result (c.place_of-at.ensures mk) c.if-at-n.true));
       setup = refl;
     }
 
-pub returns-then-is-claimed : goal.returns-then-is-claimed
-returns-then-is-claimed g c =
+pub returns-then-is_claimed : goal.returns-then-is_claimed
+returns-then-is_claimed g c =
     let b = c.args.self.now in
     let m = g.C.Condition.meaning in
     let u = c.used-n.ensures in
     let ys = b.rows.now in
     let n = c.used-n.result in
-    let at = c.place-of-at.result in
+    let at = c.place_of-at.result in
     let x = c.index-self-at.result in
     let h : at < length (take b.count ys) = omega (arith, in_use ys b.count n u.within u.same, c.if-at-n.false) in
     let e = use_read ys b.count n u.within u.same at x (omega (arith, c.if-at-n.false)) c.index-self-at.is in
     record {
       step = λ mk. cancel_claimed (setup_of b) (view m mk b) c.args.number (row_view m mk x)
-          (found (row_view m mk) c.args.number (take b.count ys) at x (c.place-of-at.ensures mk) h ∙ ap (λ z. Some (row_view m mk z)) e)
-          (ap (λ z. claimed_in z.state) c.index-self-at.is ∙ sym c.is-claimed.ensures ∙ c.if-is-claimed.true);
+          (found (row_view m mk) c.args.number (take b.count ys) at x (c.place_of-at.ensures mk) h ∙ ap (λ z. Some (row_view m mk z)) e)
+          (ap (λ z. claimed_in z.state) c.index-self-at.is ∙ sym c.is_claimed.ensures ∙ c.if-is_claimed.true);
       setup = refl;
     }
 
@@ -45,7 +45,7 @@ returns g c =
     let ys = b.rows.now in
     let xs = take b.count ys in
     let n = c.used-n.result in
-    let at = c.place-of-at.result in
+    let at = c.place_of-at.result in
     let x = c.index-self-at.result in
     let k = c.args.number in
     let h : at < length xs = omega (arith, in_use ys b.count n u.within u.same, c.if-at-n.false) in
@@ -55,8 +55,8 @@ returns g c =
     record {
       step = λ mk.
           let f = row_view m mk in
-          let place = c.place-of-at.ensures mk in
-          let free = ap (λ z. claimed_in z.state) c.index-self-at.is ∙ sym c.is-claimed.ensures ∙ c.if-is-claimed.false in
+          let place = c.place_of-at.ensures mk in
+          let free = ap (λ z. claimed_in z.state) c.index-self-at.is ∙ sym c.is_claimed.ensures ∙ c.if-is_claimed.false in
           cancel_done (setup_of b) (view m mk b) k (f x) _
           (found f k xs at x place h ∙ ap (λ z. Some (f z)) e)
           free

@@ -2,16 +2,16 @@ use Rattle.book.specs.View.{row_view, view, setup_of}
 use Rattle.book.proofs.Placed.{in_book, no_row, is_free, seen}
 use Rattle.book.proofs.book.Book.check_free.Goals as goal
 
-pub returns-then-place-of-n : goal.returns-then-place-of-n
-returns-then-place-of-n g c mk =
+pub returns-then-place_of-n : goal.returns-then-place_of-n
+returns-then-place_of-n g c mk =
     let b = c.args.self.now in
     let m = g.C.Condition.meaning in
     let u = c.used-n.ensures in
     let n = c.used-n.result in
-    in_book (setup_of b) (view m mk b) c.args.number n c.place-of.result c.if-number-eq0.false
+    in_book (setup_of b) (view m mk b) c.args.number n c.place_of.result c.if-number-eq0.false
     (seen (row_view m mk) b.rows.now b.count n u.within u.same)
-    (c.place-of.ensures mk)
-    c.if-place-of-n.true
+    (c.place_of.ensures mk)
+    c.if-place_of-n.true
 
 pub returns-then-n-room : goal.returns-then-n-room
 returns-then-n-room g c mk =
@@ -19,12 +19,12 @@ returns-then-n-room g c mk =
     let m = g.C.Condition.meaning in
     let u = c.used-n.ensures in
     let n = c.used-n.result in
-    no_row (setup_of b) (view m mk b) c.args.number n c.place-of.result c.if-number-eq0.false
+    no_row (setup_of b) (view m mk b) c.args.number n c.place_of.result c.if-number-eq0.false
     (seen (row_view m mk) b.rows.now b.count n u.within u.same)
-    (c.place-of.ensures mk)
+    (c.place_of.ensures mk)
     c.room.result
     c.room.ensures
-    c.if-place-of-n.false
+    c.if-place_of-n.false
     c.if-n-room.true
 
 pub returns : goal.returns
@@ -33,10 +33,10 @@ returns g c mk =
     let m = g.C.Condition.meaning in
     let u = c.used-n.ensures in
     let n = c.used-n.result in
-    is_free (setup_of b) (view m mk b) c.args.number n c.place-of.result c.if-number-eq0.false
+    is_free (setup_of b) (view m mk b) c.args.number n c.place_of.result c.if-number-eq0.false
     (seen (row_view m mk) b.rows.now b.count n u.within u.same)
-    (c.place-of.ensures mk)
+    (c.place_of.ensures mk)
     c.room.result
     c.room.ensures
-    c.if-place-of-n.false
+    c.if-place_of-n.false
     c.if-n-room.false

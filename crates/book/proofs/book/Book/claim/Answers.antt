@@ -15,7 +15,7 @@ returns-then-at-n g c =
     let k = c.args.number in
     record {
       step = λ mk.
-          let past = past_use b.rows.now b.count c.used-n.result u.within u.same (row_view m mk) k c.place-of-at.result (c.place-of-at.ensures mk) c.if-at-n.true in
+          let past = past_use b.rows.now b.count c.used-n.result u.within u.same (row_view m mk) k c.place_of-at.result (c.place_of-at.ensures mk) c.if-at-n.true in
           ap (λ t. (view m mk b, gives (right_of t))) c.new.ensures
           ∙ claim_done (setup_of b) (view m mk b) k (view m mk b).rows true
           (sym (on_none k (λ r. standing (row_after b.limit.value mk (claiming k) r)) (view m mk b).rows past))
@@ -32,7 +32,7 @@ returns g c =
     let ys = b.rows.now in
     let xs = take b.count ys in
     let n = c.used-n.result in
-    let at = c.place-of-at.result in
+    let at = c.place_of-at.result in
     let x = c.index-self-at.result in
     let k = c.args.number in
     let y = c.claim-claimed.new.self in
@@ -43,7 +43,7 @@ returns g c =
     record {
       step = λ mk.
           let f = row_view m mk in
-          let place = c.place-of-at.ensures mk in
+          let place = c.place_of-at.ensures mk in
           ap (λ t. (record { market = mk; rows = rows_view m mk (take b.count (set ys at y)) }, gives (right_of t))) c.new-2.ensures
           ∙ claim_done (setup_of b) (view m mk b) k _ (not c.claim-claimed.result)
           (ap (rows_view m mk) (take_of_set b.count ys at y)

@@ -16,11 +16,11 @@ returns g c =
     let ys = b.rows.now in
     let n = c.used-n.result in
     let o = c.args.opening in
-    let d = c.in-ok-day.day in
-    let opened = c.in-ok-day.ensures in
-    let told = c.tell-day-self in
+    let d = c.in_ok-day.day in
+    let opened = c.in_ok-day.ensures in
+    let told = c.tell_day-self in
     let mk = market_of c.args.market.now.shares in
-    let mk₂ = market_of c.open-day.new.self.shares in
+    let mk₂ = market_of c.open_day.new.self.shares in
     record {
       step = day_taken m (setup_of b) mk mk₂ o d (take b.count ys) _ opened.answer opened.after opened.day
           (ap (rows_view m mk₂) (stays_front (take (n - 0) ys) told.new.rows (post_of 0 (n - 0) ys) told.result told.ensures.within told.auto.rows)

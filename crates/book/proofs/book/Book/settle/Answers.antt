@@ -10,18 +10,18 @@ use Rattle.book.proofs.book.Book.settle.Goals as goal
 ticket_is : (v w : Bool) (a b j k : ℕ) → v ≡ w → a ≡ b → j ≡ k → ◌≡◌ {A = Ticket} (record { void = v; book = a; number = j }) (record { void = w; book = b; number = k })
 ticket_is v w a b j k p q r = cc
 
-pub returns-then-is-void : goal.returns-then-is-void
-returns-then-is-void g c =
+pub returns-then-is_void : goal.returns-then-is_void
+returns-then-is_void g c =
     let b = c.args.self.now in
     let m = g.C.Condition.meaning in
-    let void = sym (ap (λ t. t.void) c.spend.ensures) ∙ sym c.is-void.ensures ∙ c.if-is-void.true in
+    let void = sym (ap (λ t. t.void) c.spend.ensures) ∙ sym c.is_void.ensures ∙ c.if-is_void.true in
     record { step = λ mk. settle_void (setup_of b) (view m mk b) (right_of c.args.ticket) c.args.fill void; setup = refl }
 
 pub returns-then-book-self : goal.returns-then-book-self
 returns-then-book-self g c =
     let b = c.args.self.now in
     let m = g.C.Condition.meaning in
-    let void = sym (ap (λ t. t.void) c.spend.ensures) ∙ sym c.is-void.ensures ∙ c.if-is-void.false in
+    let void = sym (ap (λ t. t.void) c.spend.ensures) ∙ sym c.is_void.ensures ∙ c.if-is_void.false in
     let other = ne_eqb c.args.ticket.book b.number (λ e. c.if-book-self.true (c.book.ensures ∙ ap (λ t. t.book) c.spend.ensures ∙ e)) in
     record { step = λ mk. settle_elsewhere (setup_of b) (view m mk b) (right_of c.args.ticket) c.args.fill void other; setup = refl }
 
@@ -29,10 +29,10 @@ pub returns : goal.returns
 returns g c =
     let b = c.args.self.now in
     let m = g.C.Condition.meaning in
-    let void = sym (ap (λ t. t.void) c.spend.ensures) ∙ sym c.is-void.ensures ∙ c.if-is-void.false in
+    let void = sym (ap (λ t. t.void) c.spend.ensures) ∙ sym c.is_void.ensures ∙ c.if-is_void.false in
     let book = sym (ap (λ t. t.book) c.spend.ensures) ∙ sym c.book.ensures ∙ c.if-book-self.false in
     let number = sym (ap (λ t. t.number) c.spend.ensures) ∙ sym c.number.ensures in
     record {
-      step = λ mk. c.settle-order.ensures.step mk ∙ ap (λ t. step (setup_of b) (view m mk b) (single (settling t c.args.fill))) (sym (ticket_is c.args.ticket.void false c.args.ticket.book b.number c.args.ticket.number c.number.result void book number));
-      setup = c.settle-order.ensures.setup;
+      step = λ mk. c.settle_order.ensures.step mk ∙ ap (λ t. step (setup_of b) (view m mk b) (single (settling t c.args.fill))) (sym (ticket_is c.args.ticket.void false c.args.ticket.book b.number c.args.ticket.number c.number.result void book number));
+      setup = c.settle_order.ensures.setup;
     }

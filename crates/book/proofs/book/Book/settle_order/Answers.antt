@@ -18,19 +18,19 @@ returns-then-at-n g c =
     let t : Ticket = record { void = false; book = b.number; number = c.args.number } in
     record {
       step = λ mk. settle_unclaimed (setup_of b) (view m mk b) t c.args.fill refl (eq-eqb b.number b.number refl)
-          (ap (holds (λ r. r.claimed)) (row_none c.args.number (view m mk b).rows (past_use b.rows.now b.count c.used-n.result u.within u.same (row_view m mk) c.args.number c.place-of-at.result (c.place-of-at.ensures mk) c.if-at-n.true)));
+          (ap (holds (λ r. r.claimed)) (row_none c.args.number (view m mk b).rows (past_use b.rows.now b.count c.used-n.result u.within u.same (row_view m mk) c.args.number c.place_of-at.result (c.place_of-at.ensures mk) c.if-at-n.true)));
       setup = refl;
     }
 
-pub returns-then-not-is-claimed : goal.returns-then-not-is-claimed
-returns-then-not-is-claimed g c =
+pub returns-then-not-is_claimed : goal.returns-then-not-is_claimed
+returns-then-not-is_claimed g c =
     let b = c.args.self.now in
     let m = g.C.Condition.meaning in
     let u = c.used-n.ensures in
     let ys = b.rows.now in
     let xs = take b.count ys in
     let n = c.used-n.result in
-    let at = c.place-of-at.result in
+    let at = c.place_of-at.result in
     let k = c.args.number in
     let t : Ticket = record { void = false; book = b.number; number = k } in
     let h : at < length xs = omega (arith, in_use ys b.count n u.within u.same, c.if-at-n.false) in
@@ -39,8 +39,8 @@ returns-then-not-is-claimed g c =
     let e = use_read ys b.count n u.within u.same at x (omega (arith, c.if-at-n.false)) c.index-self-at.is in
     record {
       step = λ mk. settle_unclaimed (setup_of b) (view m mk b) t c.args.fill refl own
-          (ap (holds (λ r. r.claimed)) (found (row_view m mk) k xs at x (c.place-of-at.ensures mk) h)
-          ∙ ap (λ z. claimed_in z.state) (e ∙ c.index-self-at.is) ∙ sym c.is-claimed.ensures ∙ c.if-not-is-claimed.true);
+          (ap (holds (λ r. r.claimed)) (found (row_view m mk) k xs at x (c.place_of-at.ensures mk) h)
+          ∙ ap (λ z. claimed_in z.state) (e ∙ c.index-self-at.is) ∙ sym c.is_claimed.ensures ∙ c.if-not-is_claimed.true);
       setup = refl;
     }
 
@@ -52,7 +52,7 @@ returns-then-settle g c =
     let ys = b.rows.now in
     let xs = take b.count ys in
     let n = c.used-n.result in
-    let at = c.place-of-at.result in
+    let at = c.place_of-at.result in
     let k = c.args.number in
     let t : Ticket = record { void = false; book = b.number; number = k } in
     let h : at < length xs = omega (arith, in_use ys b.count n u.within u.same, c.if-at-n.false) in
@@ -65,10 +65,10 @@ returns-then-settle g c =
     record {
       step = λ mk.
           let f = row_view m mk in
-          let place = c.place-of-at.ensures mk in
+          let place = c.place_of-at.ensures mk in
           settle_done (setup_of b) (view m mk b) t c.args.fill _ refl own
           (ap (holds (λ r. r.claimed)) (found f k xs at x place h)
-          ∙ ap (λ z. claimed_in z.state) (e ∙ c.index-self-at.is) ∙ sym c.is-claimed.ensures ∙ c.if-not-is-claimed.false)
+          ∙ ap (λ z. claimed_in z.state) (e ∙ c.index-self-at.is) ∙ sym c.is_claimed.ensures ∙ c.if-not-is_claimed.false)
           (ap (rows_view m mk) (take_of_set b.count ys at y)
           ∙ on_set f k xs at x₂ place h (λ r. standing (row_after b.limit.value mk (settling t c.args.fill) r)) y
           (ap standing (turn_settle b.limit.value mk t c.args.fill (f (get_or xs at x₂)) (numbered f k xs at x₂ place h))
@@ -85,7 +85,7 @@ returns g c =
     let ys = b.rows.now in
     let xs = take b.count ys in
     let n = c.used-n.result in
-    let at = c.place-of-at.result in
+    let at = c.place_of-at.result in
     let k = c.args.number in
     let t : Ticket = record { void = false; book = b.number; number = k } in
     let h : at < length xs = omega (arith, in_use ys b.count n u.within u.same, c.if-at-n.false) in
@@ -101,10 +101,10 @@ returns g c =
     record {
       step = λ mk.
           let f = row_view m mk in
-          let place = c.place-of-at.ensures mk in
+          let place = c.place_of-at.ensures mk in
           settle_done (setup_of b) (view m mk b) t c.args.fill _ refl own
           (ap (holds (λ r. r.claimed)) (found f k xs at x place h)
-          ∙ ap (λ z. claimed_in z.state) (e ∙ c.index-self-at.is) ∙ sym c.is-claimed.ensures ∙ c.if-not-is-claimed.false)
+          ∙ ap (λ z. claimed_in z.state) (e ∙ c.index-self-at.is) ∙ sym c.is_claimed.ensures ∙ c.if-not-is_claimed.false)
           (ap (rows_view m mk) lefts
           ∙ on_left f k xs at x₂ place h (λ r. standing (row_after b.limit.value mk (settling t c.args.fill) r))
           (ap standing (turn_settle b.limit.value mk t c.args.fill (f (get_or xs at x₂)) (numbered f k xs at x₂ place h))

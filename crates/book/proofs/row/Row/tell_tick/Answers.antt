@@ -30,7 +30,7 @@ returns-in-Fires g c =
     let mk = market_of c.args.market.now.shares in
     let told = c.in-Fires.ensures in
     let fired = c.fire.ensures in
-    let p = sym {b = prices_of (mk c.args.self.now.terms.traded)} c.prices-of-prices.ensures in
+    let p = sym {b = prices_of (mk c.args.self.now.terms.traded)} c.prices_of-prices.ensures in
     let z = moved means mk c.args.share c.args.limit.value c.args.tick c.args.self.now c.fire.result.stays c.fire.new.self (slip_list c.fire.result.slip) (answer.Fires c.in-Fires.fire) (means c.tell.new.self) (c.if-not-watches.ensures mk)
     told.answers told.follows fired.terms fired.unclaimed (fired.machine mk p) (fired.slips mk p)
     in
