@@ -7,8 +7,8 @@ use Rattle.replay.proofs.run.carry_out_all.Goals as goal
 pub loop-request-preserved : goal.loop-request-preserved
 loop-request-preserved g c =
     let p = c.loop-request.invariant in
-    let one = c.carry-out-reply in
-    let push = c.push-reserved in (
+    let one = c.carry_out-reply in
+    let push = c.push_reserved in (
       going_more p.0 c.loop-request.auto.slips c.request-item.result c.request-item.is c.loop-request-test.true (desk_setup one.new.desk)
           (desk_view g.C.Condition.meaning one.new.desk) (rights one.new.held.items) one.result push.new.self.items one.new.slips
           one.ensures.setup one.ensures.turned one.auto.slips push.ensures.items c.count-written.result c.count-written.ensures,

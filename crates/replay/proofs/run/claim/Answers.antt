@@ -10,8 +10,8 @@ pub returns : goal.returns
 returns g c =
     let t = c.claim-ticket.result in
     record {
-      turned = λ ps. silent _ (gives (right_of t)) _ refl c.claim-ticket.ensures.carried.is_step (ap rights c.push-reserved.ensures.items ∙ rights_push c.args.held.now.items t) (ap told.Ticket c.is-void-void.ensures) refl refl;
+      turned = λ ps. silent _ (gives (right_of t)) _ refl c.claim-ticket.ensures.carried.is_step (ap rights c.push_reserved.ensures.items ∙ rights_push c.args.held.now.items t) (ap told.Ticket c.is_void-void.ensures) refl refl;
       setup = c.claim-ticket.ensures.setup;
-      room = c.push-reserved.ensures.capacity;
-      more = omega (arith, c.push-reserved.ensures.len);
+      room = c.push_reserved.ensures.capacity;
+      more = omega (arith, c.push_reserved.ensures.len);
     }
