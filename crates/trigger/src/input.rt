@@ -1,5 +1,6 @@
 // The whole input, and its lines. An input is any bytes: a line that is no text is unreadable and does not end the program.
 ghost use Rattle.std.specs.Prelude.{◌≡◌, ℕ, ◌<◌, ◌≤◌, length, IsUtf8, MatchResult, ◌≢◌, slice_index};
+ghost use Rattle.std.specs.Iterator.{at_most};
 
 use crate::unreadable::Unreadable;
 use std::io::Read;
@@ -67,9 +68,7 @@ impl<'a> ByteLines<'a> {
 impl<'a> Iterator for ByteLines<'a> {
     type Item = InputLine<'a>;
 
-    ghost ends = { λ _. Unit {0} };
-
-    ghost remaining = { λ s. length s.rest.now };
+    ghost remaining = { λ s. at_most (length s.rest.now) };
 
     fn next(&mut self) -> Option<InputLine<'a>> {
         let bytes = self.rest;

@@ -1,6 +1,7 @@
 // The words of a line, and what each kind of word is read as.
 ghost use Rattle.std.specs.Prelude.{◌≡◌, ◌+◌, ◌^◌, length, is_some, if◌then◌else◌};
 ghost use Rattle.std.specs.Str.Iter.{split_whitespace_rest};
+ghost use Rattle.std.specs.Iterator.{at_most};
 ghost use Rattle.std.specs.Result.{result_ok};
 ghost use Rattle.trigger.specs.Reading.{parted, whole_read, fitting, price_read, percent_read, step_read, clock, clock_read, moment_read};
 
@@ -134,9 +135,7 @@ pub(crate) struct Words<'a> {
 impl<'a> Iterator for Words<'a> {
     type Item = &'a str;
 
-    ghost ends = { λ _. Unit {0} };
-
-    ghost remaining = { λ s. (if is_some s.ahead then 1 else 0) + length (split_whitespace_rest s.later) };
+    ghost remaining = { λ s. at_most ((if is_some s.ahead then 1 else 0) + length (split_whitespace_rest s.later)) };
 
     fn next(&mut self) -> Option<&'a str> {
         let word = self.ahead?;

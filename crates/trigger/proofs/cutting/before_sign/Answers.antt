@@ -5,5 +5,5 @@ use Rattle.trigger.proofs.cutting.before_sign.Goals as goal
 
 pub returns : goal.returns
 returns c =
-    sign_is c.args.text.now c.strip-suffix.result
-    (strip_suffix_char 37 c.args.text.now c.strip-suffix.result c.strip-suffix.ensures.cases (omega arith))
+    sign_is c.args.text.now c.strip_suffix.result
+    (strip_suffix_char 37 c.args.text.now c.strip_suffix.result c.strip_suffix.ensures.cases (omega arith))
