@@ -1,17 +1,15 @@
 -- The calls that name one order: what the rules do to the row of its number, and what the book's code does at its place.
-use Rattle.std.proofs.Common.{◌≡◌, ℕ, zero, suc, ◌+◌, ◌-◌, ◌<◌, ◌≤◌, Bool, true, false, cond, not, ◌&&◌, ◌||◌, eqb, List, [], ◌∷◌, ◌++◌, map, length, get_or, take, drop, set, is_some, Some, None, Option, sym, refl, ap, ◌∙◌, ap₂, arith}
+use Rattle.std.proofs.Common.{◌≡◌, ℕ, zero, suc, ◌+◌, ◌-◌, ◌<◌, ◌≤◌, Bool, true, false, cond, not, ◌||◌, eqb, List, [], ◌∷◌, ◌++◌, map, length, get_or, take, drop, set, is_some, Some, None, Option, sym, refl, ap, ◌∙◌, ap₂, arith}
 use borrow.Rule.Slice.PartMut.{post_of}
 use Rattle.std.specs.Option.{option_map}
 use Rattle.std.proofs.lemmas.List.{append-nil, get_or-map, get_or-take, length-map, length-take-le, length-set, take-set, drop-set-lt, set_split, map-append, take-map, drop-map, take-append-le}
-use Rattle.std.proofs.lemmas.Bool.{eq-eqb}
 use Rattle.values.specs.declared.price.Price.{Price}
 use Rattle.conditions.specs.Meaning.{Meaning}
 use Rattle.rules.specs.Book.{Setup, State, Row, row_of, on_row, holds, claimable, state_in, standing, row_after, step, decided}
-use Rattle.rules.specs.Calls.{Ticket, cancelling, claiming, settling, single, Refusal, by_book, Reply, done, gives, refused}
+use Rattle.rules.specs.Calls.{Ticket, cancelling, claiming, settling, single, by_book, Reply, done, gives, refused}
 use Rattle.rules.specs.Machine.{Machine, runs}
 use Rattle.rules.specs.Market.{Market}
 use Rattle.rules.specs.OwnEvents.{own_cancel, own_settlement}
-use Rattle.rules.specs.declared.fault.PlacingFault.{PlacingFault}
 use Rattle.rules.specs.declared.fault.PlacingFault.TheVariants as fault
 use Rattle.rules.specs.declared.order.Terms.{Terms}
 use Rattle.rules.specs.declared.state.OrderState.{OrderState}

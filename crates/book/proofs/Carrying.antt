@@ -3,9 +3,9 @@ use Rattle.std.proofs.Common.{◌≡◌, List, [], ◌∷◌, ◌++◌, sym, ref
 use Rattle.rules.specs.Book.{Setup, State, new, step}
 use Rattle.rules.specs.Calls.{Call, Reply}
 use Rattle.rules.specs.Law.{Lawful}
-use Rattle.rules.specs.Trace.{Entry, entry, trace, state_by}
+use Rattle.rules.specs.Trace.{entry, trace, state_by}
 use Rattle.rules.proofs.Laws.{lawful, independent}
-use Rattle.book.specs.Carrying.{Extends, Carried}
+use Rattle.book.specs.Carrying.{Carried}
 
 state_more : (su : Setup) (s : State) (cs : List Call) (c : Call) → state_by su s (cs ++ c ∷ []) ≡ (step su (state_by su s cs) c).0
 state_more su s [] c = refl

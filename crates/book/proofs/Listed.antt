@@ -1,18 +1,18 @@
 -- A listing changes no order.
-use Rattle.std.proofs.Common.{◌≡◌, ℕ, Bool, true, false, cond, ltb, List, [], ◌∷◌, ◌++◌, length, take, is_some, Some, None, Ok, Err, Option, Result, sym, refl, ap, ◌∙◌, ap₂}
+use Rattle.std.proofs.Common.{◌≡◌, ℕ, Bool, true, false, cond, ltb, List, take, is_some, Some, None, Ok, Err, Option, Result, sym, refl, ap, ◌∙◌}
 use Rattle.std.specs.Option.{option_map}
 use Rattle.std.specs.Result.{result_err}
 use Rattle.std.proofs.lemmas.List.{append-nil}
 use Rattle.conditions.specs.Meaning.{Meaning}
 use Rattle.market.specs.Asking.{newly, when_granted}
-use Rattle.rules.specs.Book.{Setup, State, step, decided}
-use Rattle.rules.specs.Bounds.{greatest_share, closes_kept}
+use Rattle.rules.specs.Book.{Setup, step, decided}
+use Rattle.rules.specs.Bounds.{greatest_share}
 use Rattle.rules.specs.Calls.{listing, single, by_market, refused, done}
 use Rattle.rules.specs.Checks.{first_fault}
-use Rattle.rules.specs.Market.{Market, Share, put, listed, list_checks, price_check}
+use Rattle.rules.specs.Market.{Market, Share, put, list_checks}
 use Rattle.rules.specs.declared.fault.MarketFault.{MarketFault}
 use Rattle.rules.specs.declared.fault.MarketFault.TheVariants as fault
-use Rattle.book.specs.View.{rows_view, view, setup_of, day_reply}
+use Rattle.book.specs.View.{view, day_reply}
 use Rattle.book.specs.declared.book.Book.{Book}
 use Rattle.book.proofs.Bearing.{listed_rows}
 

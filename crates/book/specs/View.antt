@@ -10,7 +10,6 @@ use Rattle.rules.specs.Machine.{Notes, Machine, watching, waiting}
 use Rattle.rules.specs.Market.{Market, prices_of}
 use Rattle.rules.specs.declared.fault.MarketFault.{MarketFault}
 use Rattle.rules.specs.declared.fault.PlacingFault.{PlacingFault}
-use Rattle.rules.specs.declared.quote.Levels.{Levels}
 use Rattle.rules.specs.declared.slip.Slip.{Slip}
 use Rattle.rules.specs.declared.state.OrderState.{OrderState}
 use Rattle.rules.specs.declared.state.OrderState.TheVariants as state

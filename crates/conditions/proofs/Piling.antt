@@ -2,7 +2,7 @@
 use Rattle.std.proofs.Common.{◌≡◌, false, Some, None, Option, unwrap_or, refl}
 use Rattle.values.specs.Ranges.{whole}
 use Rattle.values.specs.declared.range.PriceRange.{PriceRange}
-use Rattle.conditions.specs.Meaning.{Meaning, Repeats, Proper}
+use Rattle.conditions.specs.Meaning.{Meaning}
 use Rattle.conditions.specs.Piles.{Lawful, Piled, bare, under_until, under_range, under_either, PilesLawful, span_or, switch_or}
 use Rattle.conditions.specs.declared.layer.pile.Bounds.{Bounds}
 use Rattle.conditions.specs.Layering.{until_repeats, until_proper, range_repeats, range_proper, either_repeats, either_proper}

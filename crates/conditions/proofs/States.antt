@@ -1,7 +1,6 @@
 -- A meaning that is given by states: the repeat law at one tick in each state gives it after every list.
-use Rattle.std.proofs.Common.{◌≡◌, Bool, true, false, List, [], ◌∷◌, ◌++◌, sym, refl, ap, ◌∙◌, append-nil}
-use Rattle.values.specs.declared.price.Price.{Price}
-use Rattle.conditions.specs.Meaning.{Meaning, after, ends, Live, Agree, Idle, Repeats}
+use Rattle.std.proofs.Common.{◌≡◌, false, List, [], ◌∷◌, ◌++◌, sym, refl, ap, ◌∙◌, append-nil}
+use Rattle.conditions.specs.Meaning.{Meaning, after, ends, Idle, Repeats}
 use Rattle.conditions.specs.declared.event.Tick.{Tick}
 use Rattle.conditions.specs.declared.event.Event.{Event}
 use Rattle.conditions.specs.declared.event.Event.TheVariants as event

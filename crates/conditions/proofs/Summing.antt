@@ -1,8 +1,8 @@
 -- Sums of closes: one close more, and the newest n of a list.
-use Rattle.std.proofs.Common.{◌≡◌, ℕ, ◌+◌, ◌-◌, ◌*◌, ◌<◌, ◌≤◌, Bool, true, false, cond, ◌&&◌, ◌||◌, T, eqb, ltb, leb, List, length, get_or, take, drop, sum_by, sym, refl, ap, ◌∙◌, arith, length-drop, le-ltb, le-leb}
-use Rattle.std.proofs.lemmas.List.{take_all, take_rest}
+use Rattle.std.proofs.Common.{◌≡◌, ℕ, ◌+◌, ◌-◌, ◌*◌, ◌<◌, ◌≤◌, Bool, true, false, cond, ◌&&◌, ◌||◌, T, eqb, leb, List, length, get_or, take, drop, sum_by, sym, refl, ap, ◌∙◌, arith, length-drop, le-ltb, le-leb}
+use Rattle.std.proofs.lemmas.List.{take_rest}
 use Rattle.std.proofs.lemmas.List.Sums.{sum_by_more}
-use Rattle.values.specs.Bounds.{within, least_price, greatest_price}
+use Rattle.values.specs.Bounds.{least_price, greatest_price}
 use Rattle.values.specs.declared.price.Price.{Price}
 use Rattle.conditions.specs.Closes.{newest_sum}
 use Rattle.conditions.specs.Sums.{sums}

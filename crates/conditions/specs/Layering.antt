@@ -1,14 +1,12 @@
 -- The layers keep the laws of a condition, where the conditions below them do.
-use Rattle.std.specs.Prelude.{◌≡◌, ℕ, Bool, true, false, cond, not, List, [], ◌∷◌, ◌++◌, nat_lt, refl}
+use Rattle.std.specs.Prelude.{◌≡◌, ℕ, Bool, true, false, cond, List, [], ◌∷◌, ◌++◌, nat_lt, refl}
 use Rattle.std.proofs.Common.{sym, ◌∙◌, ap}
 use borrow.Author.Tests.{clash}
-use Rattle.values.specs.Ranges.{inside}
 use Rattle.values.specs.declared.price.Price.{Price}
 use Rattle.values.specs.declared.range.PriceRange.{PriceRange}
-use Rattle.conditions.specs.Layers.{late, until, outside, leaving, in_range, later, joined, both, either}
-use Rattle.conditions.specs.Meaning.{Meaning, after, over, ends, fires, Live, Agree, Idle, Repeats, Proper}
+use Rattle.conditions.specs.Layers.{late, until, outside, leaving, in_range, later, both, either}
+use Rattle.conditions.specs.Meaning.{Meaning, after, over, ends, fires, Live, Idle, Repeats, Proper}
 use Rattle.conditions.specs.declared.event.Day.{Day}
-use Rattle.conditions.specs.declared.event.Fire.{Fire}
 use Rattle.conditions.specs.declared.event.Tick.{Tick}
 use Rattle.conditions.specs.declared.event.Event.{Event}
 use Rattle.conditions.specs.declared.event.Event.TheVariants as event

@@ -2,7 +2,7 @@
 use Rattle.std.specs.Prelude.{ℕ, Bool, true, false, cond, not, nat_lt}
 use Rattle.values.specs.Ranges.{inside}
 use Rattle.values.specs.declared.range.PriceRange.{PriceRange}
-use Rattle.conditions.specs.Meaning.{Meaning, ends}
+use Rattle.conditions.specs.Meaning.{Meaning}
 use Rattle.conditions.specs.declared.event.Event.{Event}
 use Rattle.conditions.specs.declared.event.Event.TheVariants as event
 use Rattle.conditions.specs.declared.event.Next.{Next}

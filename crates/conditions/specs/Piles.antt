@@ -1,5 +1,5 @@
 -- Piles of the three layers, and that each keeps the laws of a condition.
-use Rattle.std.specs.Prelude.{ℕ, Bool, true, false, Some, None, Option}
+use Rattle.std.specs.Prelude.{ℕ, Bool, false, Some, None, Option}
 use Rattle.values.specs.Ranges.{whole}
 use Rattle.values.specs.declared.range.PriceRange.{PriceRange}
 use Rattle.conditions.specs.Layers.{until, in_range, either}

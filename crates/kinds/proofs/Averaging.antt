@@ -1,5 +1,5 @@
 -- The average of some closes and a price is a price.
-use Rattle.std.proofs.Common.{◌≡◌, ℕ, ◌+◌, ◌-◌, ◌*◌, ◌/◌, ◌<◌, ◌≤◌, Bool, true, false, cond, not, ◌&&◌, ◌||◌, T, eqb, leb, is_some, Some, None, Ok, Err, Option, Result, sym, refl, ap, ◌∙◌, le-div_iff_mul-le, arith, ne_eqb, eqb-true, leb-true}
+use Rattle.std.proofs.Common.{◌≡◌, ℕ, ◌+◌, ◌-◌, ◌*◌, ◌/◌, ◌<◌, ◌≤◌, Bool, true, false, cond, not, ◌&&◌, ◌||◌, T, eqb, leb, is_some, Some, None, Option, Result, sym, refl, ap, ◌∙◌, le-div_iff_mul-le, arith, ne_eqb, eqb-true, leb-true}
 use native.Mathlib.Nat.{div-le_of_le-mul}
 use Rattle.std.specs.Option.{ok_or}
 use Rattle.std.specs.Result.{result_ok}

@@ -1,5 +1,5 @@
 -- The grid is answered from the latest fire in market mode, and from the latest heeded settlement in fill mode.
-use Rattle.std.proofs.Common.{◌≡◌, Bool, true, false, List, [], ◌∷◌, ◌++◌, Some, None, Option, sym, refl, ap, ◌∙◌, append_assoc}
+use Rattle.std.proofs.Common.{◌≡◌, false, List, [], ◌∷◌, ◌++◌, Some, None, Option, sym, refl, ap, ◌∙◌, append_assoc}
 use Rattle.values.specs.declared.price.Price.{Price}
 use Rattle.values.specs.declared.range.PriceRange.{PriceRange}
 use Rattle.values.specs.declared.step.Step.{Step}
@@ -8,8 +8,7 @@ use Rattle.conditions.specs.declared.event.Tick.{Tick}
 use Rattle.conditions.specs.declared.event.Event.{Event}
 use Rattle.conditions.specs.declared.event.Event.TheVariants as event
 use Rattle.conditions.specs.declared.event.Fire.{Fire}
-use Rattle.conditions.specs.declared.event.Answer.TheVariants as answer
-use Rattle.kinds.specs.Bases.{Quiet, Unsettled, LatestFire, none, FromLatestFire, LatestFill, unfired, awaited, filled, unless_awaited, FromLatestFill}
+use Rattle.kinds.specs.Bases.{Unsettled, LatestFire, none, FromLatestFire, LatestFill, unfired, awaited, filled, unless_awaited, FromLatestFill}
 use Rattle.kinds.specs.Grids.{fire, stage_by, stage_next, stage_after, answer_by, answer_at, grid_answer, grid_means, market_terms, fill_terms}
 use Rattle.kinds.specs.declared.grid.GridTerms.{GridTerms}
 use Rattle.kinds.specs.declared.grid.GridStage.{GridStage}

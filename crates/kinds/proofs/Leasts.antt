@@ -1,7 +1,6 @@
 -- The least of some prices is one of them, and none lies below it.
-use Rattle.std.proofs.Common.{◌≡◌, ℕ, Bool, true, false, cond, List, [], ◌∷◌, sym, refl, ap, ◌∙◌}
+use Rattle.std.proofs.Common.{◌≡◌, ℕ, Bool, true, false, cond, List, [], ◌∷◌, refl}
 use mathlib.Core.List.{Memᴰ}
-use Rattle.std.specs.List.{AllByRecursion as All}
 use Rattle.values.specs.Directions.{TotalOrder}
 use Rattle.values.specs.declared.price.Price.{Price}
 use Rattle.kinds.specs.Trails.{least, LeastOf, LeastIsLeast}

@@ -1,13 +1,12 @@
 -- Each tick is answered from the price of the latest tick that fired.
-use Rattle.std.specs.Prelude.{◌≡◌, Bool, true, false, List, [], ◌∷◌, ◌++◌, refl}
+use Rattle.std.specs.Prelude.{◌≡◌, true, false, List, [], ◌∷◌, ◌++◌, refl}
 use Rattle.std.proofs.Common.{ap, ◌∙◌, sym, subst, append_assoc, append-nil}
 use Rattle.values.specs.declared.price.Price.{Price}
 use Rattle.conditions.specs.Meaning.{Meaning, fires}
 use Rattle.conditions.specs.declared.event.Tick.{Tick}
 use Rattle.conditions.specs.declared.event.Event.{Event}
 use Rattle.conditions.specs.declared.event.Event.TheVariants as event
-use Rattle.conditions.specs.declared.event.Answer.{Answer}
-use Rattle.kinds.specs.Bases.{Quiet, LatestFire, none, latest, FromLatestFire}
+use Rattle.kinds.specs.Bases.{Quiet, LatestFire, none, latest}
 
 -- what holds of no events, and of one event more, holds of all lists
 module _ (P : List Event → Type 0) (start : P []) (more : (h : List Event) (e : Event) → P h → P (h ++ e ∷ [])) where

@@ -1,5 +1,5 @@
 -- The batch answers its meaning, keeps the repeat law, and is answered from the latest fire.
-use Rattle.std.specs.Prelude.{◌≡◌, ℕ, Bool, true, false, List, [], ◌∷◌, ◌++◌, Some, None, Option, refl}
+use Rattle.std.specs.Prelude.{◌≡◌, ℕ, Bool, false, List, [], ◌∷◌, ◌++◌, Some, None, Option, refl}
 use Rattle.std.proofs.Common.{ap, ◌∙◌, sym}
 use Rattle.values.specs.Directions.{Beyond}
 use Rattle.values.specs.Prices.{reached_target}
@@ -11,9 +11,7 @@ use Rattle.conditions.specs.declared.event.Tick.{Tick}
 use Rattle.conditions.specs.declared.event.Event.{Event}
 use Rattle.conditions.specs.declared.event.Event.TheVariants as event
 use Rattle.conditions.specs.declared.event.Side.{Side}
-use Rattle.conditions.specs.declared.event.Answer.{Answer}
-use Rattle.conditions.specs.declared.event.Answer.TheVariants as answer
-use Rattle.conditions.proofs.States.{Rests, Once, lawful}
+use Rattle.conditions.proofs.States.{Rests, lawful}
 use Rattle.kinds.specs.Bases.{LatestFire, none, FromLatestFire}
 use Rattle.kinds.specs.Batches.{fires_on, batch_answer, base_by, base_next, base_after, batch_means}
 use Rattle.kinds.specs.Basing.{by_events, latest_quiet, latest_fired}

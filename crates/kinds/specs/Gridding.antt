@@ -1,27 +1,22 @@
 -- The grid answers its meaning and keeps the repeat law.
-use Rattle.std.specs.Prelude.{◌≡◌, Bool, true, false, cond, List, [], ◌∷◌, ◌++◌, Some, None, Option, refl}
+use Rattle.std.specs.Prelude.{◌≡◌, false, [], ◌∷◌, Some, None, Option, refl}
 use Rattle.std.proofs.Common.{ap, ◌∙◌, sym}
-use Rattle.std.proofs.Math.Path.{fun_ext}
-use borrow.Author.Tests.{clash}
 use Rattle.values.specs.Directions.{Beyond, rising_order, rising_target, falling_order, falling_target}
-use Rattle.values.specs.Prices.{reached_target}
 use Rattle.values.specs.declared.price.Price.{Price}
-use Rattle.values.specs.declared.step.Step.{Step}
 use Rattle.values.proofs.Pricing.{reached_itself}
-use Rattle.conditions.specs.Meaning.{Meaning, after, ends, fires, Repeats, Proper}
-use Rattle.kinds.specs.Grids.{allowed, follows_fire, buy_target, sell_target, chosen, fire, moved, stage_by, stage_next, stage_after, answer_by, answer_at, grid_means}
+use Rattle.conditions.specs.Meaning.{Meaning, after, fires, Repeats, Proper}
+use Rattle.kinds.specs.Grids.{allowed, sell_target, chosen, fire, moved, stage_by, stage_next, stage_after, answer_by, answer_at, grid_means}
 use Rattle.conditions.specs.declared.event.Tick.{Tick}
 use Rattle.conditions.specs.declared.event.Event.{Event}
 use Rattle.conditions.specs.declared.event.Event.TheVariants as event
 use Rattle.conditions.specs.declared.event.Fire.{Fire}
-use Rattle.conditions.specs.declared.event.Answer.{Answer}
 use Rattle.conditions.specs.declared.event.Answer.TheVariants as answer
 use Rattle.kinds.specs.declared.grid.GridMode.{GridMode}
 use Rattle.kinds.specs.declared.grid.GridMode.TheVariants as mode
 use Rattle.kinds.specs.declared.grid.GridTerms.{GridTerms}
 use Rattle.kinds.specs.declared.grid.GridStage.{GridStage}
 use Rattle.kinds.specs.declared.grid.GridStage.TheVariants as stage
-use Rattle.conditions.proofs.States.{Rests, Once, lawful}
+use Rattle.conditions.proofs.States.{Rests, lawful}
 
 allowed_none : (m : GridMode) → allowed m None ≡ None
 allowed_none (mode.Market r) = refl

@@ -1,5 +1,5 @@
 -- A grid: buys at the falling, and sells at the rising target of its base.
-use Rattle.std.specs.Prelude.{Bool, true, false, cond, List, [], ◌∷◌, ◌++◌, Some, None, Option}
+use Rattle.std.specs.Prelude.{cond, List, [], ◌∷◌, Some, None, Option}
 use Rattle.values.specs.Directions.{rising_order, rising_target, falling_order, falling_target}
 use Rattle.values.specs.Prices.{reached_target}
 use Rattle.values.specs.Ranges.{inside}
@@ -7,7 +7,6 @@ use Rattle.values.specs.declared.price.Price.{Price}
 use Rattle.values.specs.declared.range.PriceRange.{PriceRange}
 use Rattle.values.specs.declared.step.Step.{Step}
 use Rattle.conditions.specs.Meaning.{Meaning}
-use Rattle.conditions.specs.declared.event.Tick.{Tick}
 use Rattle.conditions.specs.declared.event.Event.{Event}
 use Rattle.conditions.specs.declared.event.Event.TheVariants as event
 use Rattle.conditions.specs.declared.event.Side.{Side}

@@ -1,19 +1,18 @@
 -- Held answers its meaning and keeps the repeat law.
-use Rattle.std.specs.Prelude.{◌≡◌, ℕ, ◌+◌, ◌<◌, ◌≤◌, Bool, true, false, cond, ◌&&◌, ◌||◌, List, [], ◌∷◌, ◌++◌, is_some, Some, None, Option, nat_le, nat_lt, refl}
+use Rattle.std.specs.Prelude.{◌≡◌, ℕ, ◌+◌, ◌≤◌, Bool, true, false, cond, ◌&&◌, ◌||◌, List, [], ◌∷◌, ◌++◌, is_some, Some, None, Option, nat_le, nat_lt, refl}
 use Rattle.std.proofs.Common.{ap, ◌∙◌, sym, arith}
 use Rattle.std.proofs.Math.Path.{fun_ext}
-use borrow.Author.Tests.{clash, leb-true, leb-false, ltb-true, ltb-false, le-leb, lt-leb, lt-ltb, le-ltb}
+use borrow.Author.Tests.{clash, leb-true, leb-false, ltb-true, ltb-false, lt-leb, le-ltb}
 use Rattle.values.specs.declared.price.Price.{Price}
 use Rattle.conditions.specs.Meaning.{Meaning, after, ends, fires_over, Repeats, Proper}
-use Rattle.kinds.specs.Holds.{Session, today, all_yes, some_start, start_before, held_at, held_in, held_means, earliest, since_next, long_enough}
+use Rattle.kinds.specs.Holds.{today, all_yes, some_start, start_before, held_at, held_in, held_means, earliest, since_next, long_enough}
 use Rattle.conditions.specs.declared.event.Day.{Day}
 use Rattle.conditions.specs.declared.event.Tick.{Tick}
 use Rattle.conditions.specs.declared.event.Event.{Event}
 use Rattle.conditions.specs.declared.event.Event.TheVariants as event
 use Rattle.conditions.specs.declared.event.Side.{Side}
-use Rattle.conditions.specs.declared.event.Answer.{Answer}
 use Rattle.conditions.specs.declared.event.Answer.TheVariants as answer
-use Rattle.conditions.proofs.States.{Rests, Once, lawful}
+use Rattle.conditions.proofs.States.{Rests, lawful}
 
 -- the earlier of two moments lies long enough before a third where one of them does
 earlier_of : (b : Bool) (x y hold m : ℕ) → nat_lt x y ≡ b → nat_le (cond b x y + hold) m ≡ nat_le (x + hold) m || nat_le (y + hold) m

@@ -1,18 +1,18 @@
 -- Prompt answers its meaning and keeps the repeat law.
-use Rattle.std.specs.Prelude.{◌≡◌, Bool, true, false, List, [], ◌∷◌, ◌++◌, Some, None, Option, refl}
-use Rattle.std.proofs.Common.{ap, ◌∙◌, sym}
+use Rattle.std.specs.Prelude.{◌≡◌, false, List, [], ◌∷◌, Some, None, Option, refl}
+use Rattle.std.proofs.Common.{sym}
 use Rattle.std.proofs.Math.Path.{fun_ext}
 use borrow.Author.Tests.{clash}
 use Rattle.values.specs.declared.price.Price.{Price}
-use Rattle.conditions.specs.Meaning.{Meaning, after, ends, fires_over, Repeats, Proper}
-use Rattle.kinds.specs.Prompts.{latest_day, asked, prompt_means}
+use Rattle.conditions.specs.Meaning.{Meaning, ends, fires_over, Repeats, Proper}
+use Rattle.kinds.specs.Prompts.{asked, prompt_means}
 use Rattle.conditions.specs.declared.event.Day.{Day}
 use Rattle.conditions.specs.declared.event.Tick.{Tick}
 use Rattle.conditions.specs.declared.event.Event.{Event}
 use Rattle.conditions.specs.declared.event.Event.TheVariants as event
 use Rattle.conditions.specs.declared.event.Side.{Side}
 use Rattle.conditions.specs.declared.event.Answer.TheVariants as answer
-use Rattle.conditions.proofs.States.{Rests, Once, lawful}
+use Rattle.conditions.proofs.States.{Rests, lawful}
 
 pub not_over : (s : Side) (o : Option Price) → ends (fires_over s o) ≡ false → fires_over s o ≡ answer.Wait
 not_over s (Some t) e = absurd (clash (sym e))

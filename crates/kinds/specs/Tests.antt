@@ -1,5 +1,5 @@
 -- What each test asks of the day and the price: the trigger price where the answer is yes.
-use Rattle.std.specs.Prelude.{ℕ, ◌+◌, ◌-◌, ◌*◌, ◌/◌, Bool, true, false, cond, not, ◌&&◌, Some, None, Option, ◌==◌}
+use Rattle.std.specs.Prelude.{ℕ, ◌+◌, ◌-◌, ◌*◌, ◌/◌, Bool, cond, not, ◌&&◌, Some, None, Option, ◌==◌}
 use Rattle.values.specs.Days.{day_count}
 use Rattle.values.specs.Prices.{priced, reached_target}
 use Rattle.values.specs.declared.days.AveragingDays.{AveragingDays}

@@ -14,14 +14,12 @@ use Rattle.kinds.specs.Trails.{prices, watch, least, some_below, by_target, at_f
 use Rattle.conditions.specs.declared.event.Tick.{Tick}
 use Rattle.conditions.specs.declared.event.Event.{Event}
 use Rattle.conditions.specs.declared.event.Event.TheVariants as event
-use Rattle.conditions.specs.declared.event.Side.{Side}
 use Rattle.conditions.specs.declared.event.Answer.{Answer}
-use Rattle.conditions.specs.declared.event.Answer.TheVariants as answer
 use Rattle.kinds.specs.declared.trail.TrailTerms.{TrailTerms}
 use Rattle.kinds.specs.declared.trail.TrailState.{TrailState}
 use Rattle.kinds.specs.declared.trail.TrailState.TheVariants as state
 use Rattle.kinds.specs.Prompting.{not_over}
-use Rattle.conditions.proofs.States.{Rests, Once, lawful}
+use Rattle.conditions.proofs.States.{Rests, lawful}
 
 module _ (order : ℕ → ℕ → Bool) (target : Step → ℕ → ℕ) (total : TotalOrder order) (terms : TrailTerms) where
   abbrev m : ℕ

@@ -10,7 +10,6 @@ use Rattle.values.specs.declared.step.Step.{Step}
 use Rattle.conditions.specs.Meaning.{Meaning, fires_over}
 use Rattle.conditions.specs.declared.event.Event.{Event}
 use Rattle.conditions.specs.declared.event.Event.TheVariants as event
-use Rattle.conditions.specs.declared.event.Side.{Side}
 use Rattle.conditions.specs.declared.event.Side.TheVariants as side
 use Rattle.conditions.specs.declared.event.Answer.TheVariants as answer
 use Rattle.kinds.specs.declared.trail.TrailOptions.{TrailOptions}

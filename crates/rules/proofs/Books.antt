@@ -9,7 +9,7 @@ use Rattle.rules.specs.Book.{Setup, Row, State, new, claimed_after, row_after, s
 use Rattle.rules.specs.Calls.{Single, listing, opening, placing, quoting, cancelling, claiming, settling, asking, Call, single, burst, Refusal, Reply, refused}
 use Rattle.rules.specs.Checks.{first_fault}
 use Rattle.rules.specs.Law.{OneOfANumber}
-use Rattle.rules.specs.Machine.{number_of, runs}
+use Rattle.rules.specs.Machine.{runs}
 use Rattle.rules.specs.Market.{Market, unlisted}
 use Rattle.rules.specs.Reading.{row_with, row_from, placed_by, all_placed, reading}
 use Rattle.rules.specs.Trace.{Entry, entry, trace, state_by, granted, market_by, market_from}

@@ -1,10 +1,9 @@
 -- Which value each kind of word writes, if it writes one. Assumes nothing.
 -- A text is the list of its bytes: 35 is `#`, 37 is `%` and 58 is `:`.
-use Rattle.std.specs.Prelude.{ℕ, ◌+◌, ◌-◌, ◌*◌, ◌^◌, cond, ◌&&◌, List, [], ◌∷◌, length, take, Some, None, Ok, Err, Option, Result, ◌==◌, nat_lt, slice_index}
+use Rattle.std.specs.Prelude.{ℕ, ◌+◌, ◌-◌, ◌*◌, ◌^◌, cond, ◌&&◌, List, [], ◌∷◌, length, take, Some, None, Option, ◌==◌, nat_lt, slice_index}
 use Rattle.std.specs.Borrow.{Bor}
 use Rattle.std.specs.Option.{option_map}
 use Rattle.std.specs.Result.{result_ok}
-use Rattle.values.specs.declared.decimal.DecimalFault.{DecimalFault}
 use Rattle.values.specs.Decimals.{decimal_read}
 use Rattle.trigger.specs.declared.words.StepLine.{StepLine}
 use Rattle.trigger.specs.declared.words.StepLine.TheVariants.{Percent, Difference}

@@ -1,12 +1,11 @@
 -- A price as text: what is read, and that what is shown is read back.
-use Rattle.std.proofs.Common.{◌≡◌, ℕ, ◌^◌, ◌<◌, List, Some, None, Ok, Err, Option, Result, sym, refl, ap, ◌∙◌, arith}
+use Rattle.std.proofs.Common.{◌≡◌, ℕ, ◌^◌, ◌<◌, List, Some, None, Ok, Err, Option, Result, refl, ap, ◌∙◌, arith}
 use Rattle.std.specs.Option.{ok_or}
 use Rattle.values.specs.Bounds.{least_price, greatest_price}
 use Rattle.values.specs.Decimals.{decimal_read, yuan_text}
 use Rattle.values.specs.Making.{seen, checked}
 use Rattle.values.specs.PriceText.{price_or, price_from, price_read}
 use Rattle.values.specs.Prices.{priced}
-use Rattle.values.specs.declared.decimal.DecimalFault.{DecimalFault}
 use Rattle.values.specs.declared.fault.MakingFault.{MakingFault}
 use Rattle.values.specs.declared.fault.MakingFault.TheVariants as making
 use Rattle.values.specs.declared.price.Price.{Price}

@@ -11,7 +11,6 @@ use Rattle.values.specs.declared.fault.MakingFault.{MakingFault}
 use Rattle.values.specs.declared.fault.MakingFault.TheVariants as making
 use Rattle.values.specs.Ranges.{whole}
 use Rattle.values.specs.declared.price.Price.{Price}
-use Rattle.values.specs.declared.range.PriceRange.{PriceRange}
 use Rattle.values.specs.declared.step.Step.{Step}
 
 priced_by : (p : Price) (a b : Bool) (l : leb least_price p.value ≡ a) (h : leb p.value greatest_price ≡ b) → priced_when p.value a b l h ≡ Some p

@@ -1,5 +1,5 @@
 -- What making a checked number answers, and the numbers of its refusals.
-use Rattle.std.specs.Prelude.{ℕ, Bool, true, false, cond, Ok, Err, Result}
+use Rattle.std.specs.Prelude.{ℕ, cond, Ok, Err, Result}
 use Rattle.std.specs.Result.{result_map_both}
 use Rattle.values.specs.Bounds.{within}
 use Rattle.values.specs.declared.fault.MakingFault.{MakingFault}

@@ -3,7 +3,6 @@ use Rattle.std.specs.Prelude.{ℕ, List, Some, None, Ok, Err, Option, Result}
 use Rattle.values.specs.Decimals.{decimal_read}
 use Rattle.values.specs.Prices.{priced}
 use Rattle.values.specs.declared.decimal.DecimalFault.{DecimalFault}
-use Rattle.values.specs.declared.fault.MakingFault.{MakingFault}
 use Rattle.values.specs.declared.fault.MakingFault.TheVariants as making
 use Rattle.values.specs.declared.price.Price.{Price}
 use Rattle.values.specs.declared.price.text.PriceTextFault.{PriceTextFault}

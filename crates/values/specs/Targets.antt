@@ -1,5 +1,5 @@
 -- The two directions keep their laws: the order is total, and the target of a price lies strictly beyond it.
-use Rattle.std.specs.Prelude.{◌≡◌, ℕ, ◌+◌, ◌-◌, ◌*◌, ◌/◌, ◌<◌, ◌≤◌, true, false}
+use Rattle.std.specs.Prelude.{ℕ, ◌+◌, ◌-◌, ◌*◌, ◌/◌, ◌<◌, ◌≤◌}
 use Rattle.std.proofs.Common.{mul-le-mul, mul-add, le-div_iff_mul-le, div-lt_iff_lt-mul, arith, lit<, le-leb, leb-true, leb-false}
 use Rattle.std.proofs.Math.Nat.{mul-sub, div-le_of_le-mul}
 use Rattle.std.proofs.lemmas.Bool.{lt-leb}

@@ -1,4 +1,4 @@
-use Rattle.std.proofs.Common.{◌≡◌, ◌-◌, ◌<◌, ◌≤◌, false, eqb, length, take, Some, sym, refl, ap, ◌∙◌, arith}
+use Rattle.std.proofs.Common.{◌-◌, ◌<◌, eqb, length, take, Some, sym, refl, ap, ◌∙◌, arith}
 use lib.Seq.{length_front}
 use borrow.Rule.Slice.PartMut.{post_of}
 use Rattle.rules.specs.Book.{standing, row_after}

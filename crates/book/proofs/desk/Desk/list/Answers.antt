@@ -1,4 +1,4 @@
-use Rattle.std.proofs.Common.{◌≡◌, sym, refl, ap, ◌∙◌}
+use Rattle.std.proofs.Common.{refl}
 use Rattle.book.specs.View.{setup_of}
 use Rattle.book.proofs.Carrying.{carried}
 use Rattle.book.proofs.Listed.{listed_step}

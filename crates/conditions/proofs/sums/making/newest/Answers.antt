@@ -1,4 +1,4 @@
-use Rattle.std.proofs.Common.{◌*◌, ◌≤◌, length, ap, ◌∙◌, subst, arith}
+use Rattle.std.proofs.Common.{◌*◌, ◌≤◌, subst, arith}
 use Rattle.values.specs.Bounds.{least_price, greatest_price}
 use Rattle.conditions.proofs.Summing.{sums_fit, part_length, newest_is}
 use Rattle.conditions.proofs.sums.making.newest.Goals as goal

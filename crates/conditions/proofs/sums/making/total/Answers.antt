@@ -1,4 +1,4 @@
-use Rattle.std.proofs.Common.{◌+◌, ◌≤◌, length, sum_by, ap, ◌∙◌, arith}
+use Rattle.std.proofs.Common.{◌+◌, sum_by, ap, ◌∙◌, arith}
 use Rattle.std.proofs.lemmas.List.{take_all}
 use Rattle.conditions.proofs.Summing.{value, sum_more}
 use Rattle.conditions.proofs.sums.making.total.Goals as goal

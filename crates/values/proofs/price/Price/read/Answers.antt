@@ -1,8 +1,7 @@
-use Rattle.std.proofs.Common.{◌≡◌, Ok, Err, sym, ap, ◌∙◌}
+use Rattle.std.proofs.Common.{◌≡◌, Ok, Err, ap, ◌∙◌}
 use Rattle.std.proofs.lemmas.Result.{err_from_is_err_and}
 use Rattle.values.proofs.PriceReading.{is_read, reads}
 use Rattle.values.specs.PriceText.{price_read}
-use Rattle.values.specs.declared.price.text.PriceTextFault.TheVariants as fault
 use Rattle.values.proofs.price.Price.read.Goals as goal
 
 pub returns-in_err-price : goal.returns-in_err-price

@@ -1,4 +1,4 @@
-use Rattle.std.proofs.Common.{◌≡◌, ◌+◌, ◌-◌, ◌*◌, ◌/◌, true, sym, ap, ◌∙◌}
+use Rattle.std.proofs.Common.{◌≡◌, ◌+◌, ◌-◌, ◌*◌, ◌/◌, true, ap, ◌∙◌}
 use Rattle.values.specs.Days.{day_count}
 use Rattle.values.specs.Prices.{priced}
 use Rattle.conditions.specs.Closes.{sum_before}

@@ -1,4 +1,4 @@
-use Rattle.std.proofs.Common.{true, false, sym, ap, ◌∙◌}
+use Rattle.std.proofs.Common.{true, false, ap, ◌∙◌}
 use Rattle.kinds.specs.Holds.{since_next}
 use Rattle.kinds.specs.Holding.{turn, turn_early}
 use Rattle.kinds.proofs.test.held.HeldCondition.tell.Goals as goal
