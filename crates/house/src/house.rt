@@ -1,4 +1,7 @@
 // The house's two books, and the tickets that it holds.
+ghost use Rattle.std.specs.Prelude.{◌≡◌, ◌<◌, OnSome, IfNone};
+ghost use Rattle.std.specs.VecDeque.{deque_len};
+
 use crate::answer::Answer;
 use crate::asked::{BookName, BothAsked};
 use crate::slip_desk::SlipDesk;
@@ -111,7 +114,9 @@ impl<'a, S: Condition + Drop, R: Condition + Drop> House<'a, S, R> {
     }
 
     // Presents a ticket to a book.
-    fn spend(&mut self, book: BookName, ticket: Ticket, fill: Option<Price>) -> Answer {
+    fn spend(&mut self, book: BookName, ticket: Ticket, fill: Option<Price>) -> Answer
+        ensures { self.new.tickets ≡ self.old.tickets }
+    {
         match book {
             BookName::Single => self.single.settle(ticket, fill),
             BookName::Grid => self.grid.settle(ticket, fill),
@@ -148,7 +153,10 @@ impl<'a, S: Condition + Drop, R: Condition + Drop> House<'a, S, R> {
     }
 
     // Settles the oldest ticket that is held with nothing filled, in its own book.
-    pub fn give_up_oldest(&mut self) -> Option<GivenUp> {
+    pub fn give_up_oldest(&mut self) -> Option<GivenUp>
+        ensures one_less { OnSome result (deque_len self.new.tickets < deque_len self.old.tickets) }
+        ensures none_left { IfNone result (deque_len self.new.tickets ≡ 0) }
+    {
         let ticket = self.tickets.pop_front()?;
         let number = ticket.number();
         let book = if ticket.book() == BookName::Grid.number() {
