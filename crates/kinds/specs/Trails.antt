@@ -2,7 +2,7 @@
 use Rattle.std.specs.Prelude.{◌≡◌, ℕ, Bool, true, false, cond, not, ◌&&◌, ◌||◌, List, [], ◌∷◌, ◌++◌, Some, None, Option}
 use mathlib.Core.List.{Memᴰ}
 use Rattle.std.specs.Option.{option_or}
-use Rattle.std.specs.List.{AllByRecursion as All}
+use Rattle.std.specs.List.{AllByRecursion}
 use Rattle.values.specs.Directions.{rising_order, rising_target, falling_order, falling_target}
 use Rattle.values.specs.Prices.{reached_target}
 use Rattle.values.specs.declared.price.Price.{Price}
@@ -72,7 +72,7 @@ module _ (order : ℕ → ℕ → Bool) where
 -- one of some prices, with none of them below it: what the least of a watch is
 pub record LeastOf (order : ℕ → ℕ → Bool) (low : Price) (ps : List Price) : Type 0 where
   pub one_of : Memᴰ low ps
-  pub none_below : All (λ p. order low.value p.value ≡ true) ps
+  pub none_below : AllByRecursion (λ p. order low.value p.value ≡ true) ps
 
 abbrev pub LeastIsLeast : (ℕ → ℕ → Bool) → Type 0
 LeastIsLeast order = (x : Price) (ps : List Price) → LeastOf order (least order x ps) (x ∷ ps)
