@@ -1,13 +1,15 @@
 -- Lemmas on decimal numbers in text. Assumes nothing.
-use Rattle.std.proofs.Common.{◌≡◌, ℕ, suc, ◌+◌, ◌-◌, ◌*◌, ◌/◌, ◌%◌, ◌^◌, ◌<◌, ◌≤◌, true, false, cond, not, ◌&&◌, eqb, leb, List, [], ◌∷◌, ◌++◌, length, get_or, drop, Some, None, Ok, Err, decimal, Result, sym, refl, ap, ◌∙◌, ⊎_elim, mul_assoc, mul-one, le-mul_of_pos_right, arith, rules}
+use Rattle.std.proofs.Common.{◌≡◌, ℕ, suc, ◌+◌, ◌-◌, ◌*◌, ◌/◌, ◌%◌, ◌^◌, ◌<◌, ◌≤◌, true, false, cond, not, eqb, leb, List, [], ◌∷◌, ◌++◌, length, get_or, Some, None, Ok, Err, decimal, Result, sym, refl, ap, ◌∙◌, ⊎_elim, mul_assoc, mul-one, le-mul_of_pos_right, arith, rules}
 use native.Mathlib.Nat.{pow-succ', one-le-pow, div-div-eq-div-mul}
 use Rattle.std.proofs.lemmas.Fmt.{decimal_digit, digits_decimal, digits_value-decimal, decimal_nonempty}
-use Rattle.std.proofs.lemmas.List.{at_drop_more}
 use Rattle.std.proofs.lemmas.Str.Parse.{IsNumeralModel, numerals_by_weight, tells_all_ascii_digits, parse_digits, not_in_digits}
 use Rattle.std.proofs.lemmas.Bool.{ne_eqb, lt-ltb, le-ltb, le-leb, and_from, cases_lt}
 use Rattle.std.proofs.lemmas.Bool.Decides.{nat_tests}
 use Rattle.std.specs.Str.Parse.{ParsesUnsigned}
 use Rattle.std.specs.Char.{is_ascii_digit}
+use Rattle.std.proofs.lemmas.Result.{err_from_is_err_and}
+use Rattle.std.specs.List.{list_all}
+use Rattle.std.specs.Result.{MatchResult, IsErrAnd}
 use Rattle.std.specs.Str.{all_ascii_digits}
 use Rattle.values.specs.declared.decimal.DecimalFault.{DecimalFault}
 use Rattle.values.specs.declared.decimal.DecimalFault.TheVariants.{Malformed, TooManyDecimals, TooLarge}
@@ -32,15 +34,23 @@ numeral_some [] h = grind arith
 numeral_some (c ∷ cs) h = omega arith
 
 -- what `parse` says of digits. Its error says nothing, so a number stands for it here
-pub read_ok : (ds : List ℕ) (x : ℕ) → numeral ds ≡ true → ParsesUnsigned {E = ℕ} 32 10 ds (Ok x) → Ok x ≡ fitted (number ds)
+read_ok : (ds : List ℕ) (x : ℕ) → numeral ds ≡ true → ParsesUnsigned {E = ℕ} 32 10 ds (Ok x) → Ok x ≡ fitted (number ds)
 read_ok ds x h reads =
     let p = parse_digits own {E = ℕ} 32 ds (Ok x) reads (numeral_digits ds h) in
     ap Ok p.1 ∙ sym (fitted_below (number ds) p.0.1)
 
-pub read_err : (ds : List ℕ) → numeral ds ≡ true → ParsesUnsigned {E = ℕ} 32 10 ds (Err 0) → Err TooLarge ≡ fitted (number ds)
+read_err : (ds : List ℕ) → numeral ds ≡ true → ParsesUnsigned {E = ℕ} 32 10 ds (Err 0) → Err TooLarge ≡ fitted (number ds)
 read_err ds h reads =
     let p = parse_digits own {E = ℕ} 32 ds (Err 0) reads (numeral_digits ds h) in
     ⊎_elim (λ low. absurd (p (numeral_some ds h, low))) (λ high. sym (fitted_above (number ds) high)) (cases_lt (number ds) (2 ^ 32))
+
+-- what `parse` says, with its error made into `TooLarge`
+pub read_as : {E : Type 0} (ds : List ℕ) (p : Result ℕ E) (r : Result ℕ DecimalFault) (P : E → DecimalFault → Type 0) → ((e : E) (f : DecimalFault) → P e f → f ≡ TooLarge)
+    → numeral ds ≡ true → ParsesUnsigned 32 10 ds p → MatchResult p (λ x. r ≡ Ok x) (λ e. IsErrAnd r (P e)) → r ≡ fitted (number ds)
+read_as ds (Ok x) r P large h reads e = e ∙ read_ok ds x h reads
+read_as ds (Err e) r P large h reads k =
+    let f = err_from_is_err_and r k in
+    f.1 ∙ ap Err (large e f.0 f.2) ∙ read_err ds h reads
 
 -- n with k zeros put behind it is n or more
 zeros_le : (n k : ℕ) → n ≤ n * 10 ^ k
@@ -67,20 +77,14 @@ zeros_over n z i t h over inv =
     (λ high. sym (fitted_above t (omega (arith, zeros_le (n * 10) (z - (i + 1)), zeros_more n z i h, inv))))
     (cases_lt (n * 10) (2 ^ 32))
 
-pub not_numeral : (ds : List ℕ) → all_ascii_digits ds ≡ false → numeral ds ≡ false
-not_numeral [] h = refl
-not_numeral (c ∷ cs) h = h
-
 pub digits_numeral : (ds : List ℕ) → all_ascii_digits ds ≡ true → not (eqb (length ds) 0) ≡ numeral ds
 digits_numeral [] h = refl
 digits_numeral (c ∷ cs) h = ap not (ne_eqb (suc (length cs)) 0 (λ e. omega arith)) ∙ sym h
 
--- one byte more of a text whose bytes are digits up to it
-pub digits_more : (ds : List ℕ) (i : ℕ) → i < length ds → is_ascii_digit (get_or ds i 0) ≡ true → all_ascii_digits (drop i ds) ≡ all_ascii_digits (drop (i + 1) ds)
-digits_more ds i h d = at_drop_more all_ascii_digits ds i 0 h ∙ ap (λ b. b && all_ascii_digits (drop (i + 1) ds)) d
-
-pub digits_broken : (ds : List ℕ) (i : ℕ) → i < length ds → is_ascii_digit (get_or ds i 0) ≡ false → all_ascii_digits (drop i ds) ≡ false
-digits_broken ds i h d = at_drop_more all_ascii_digits ds i 0 h ∙ ap (λ b. b && all_ascii_digits (drop (i + 1) ds)) d
+-- a text that is not empty, each byte of which was tested
+pub numeral_tested : (ds : List ℕ) → false ≡ eqb (length ds) 0 → list_all is_ascii_digit ds ≡ numeral ds
+numeral_tested [] h = cc
+numeral_tested (c ∷ cs) h = refl
 
 fitted_was_err : (f : DecimalFault) (m : ℕ) → Err f ≡ fitted m → (f ≡ TooLarge) × (2 ^ 32 ≤ m)
 fitted_was_err f m h =

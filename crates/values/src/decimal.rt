@@ -30,12 +30,7 @@ impl fmt::Display for DecimalFault {
 fn is_numeral(text: &str) -> bool
     ensures { result ≡ numeral text.now }
 {
-    for b in text.as_bytes() {
-        if !b.is_ascii_digit() {
-            return false;
-        }
-    }
-    !text.is_empty()
+    !text.is_empty() && text.bytes().all(|b| b.is_ascii_digit())
 }
 
 // The number that digits write, however many they are. `parse` also takes a `+` in front, so the text is looked at before.
@@ -43,10 +38,7 @@ fn read_numeral(digits: &str) -> Result<u32, DecimalFault>
     requires { numeral digits.now ≡ true }
     ensures { result ≡ fitted (number digits.now) }
 {
-    match digits.parse::<u32>() {
-        Ok(n) => Ok(n),
-        Err(_) => Err(DecimalFault::TooLarge),
-    }
+    digits.parse::<u32>().map_err(|_| DecimalFault::TooLarge)
 }
 
 // A number with zeros put behind it. They are put one by one, since 10^zeros alone may not fit where the number is 0.
