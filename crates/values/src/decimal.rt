@@ -4,26 +4,20 @@ ghost use Rattle.values.specs.Decimals.{numeral, number, fitted, of_parts, decim
 
 use std::alloc::{AllocError, Global};
 use std::fmt;
+use thiserror::Error;
 
 // What is wrong with a text that is read as a decimal number. Where several things are, the first of these is named.
-#[derive(Clone, Copy, PartialEq, Eq, Debug)]
+#[derive(Clone, Copy, PartialEq, Eq, Debug, Error)]
 pub enum DecimalFault {
     // It is neither digits alone nor digits, a point and digits.
+    #[error("not a decimal number such as 18.40")]
     Malformed,
     // It has more decimals than the amount may have.
+    #[error("a decimal number with too many decimals")]
     TooManyDecimals,
     // The number does not fit 32 bits.
+    #[error("a number too large for its field")]
     TooLarge,
-}
-
-impl fmt::Display for DecimalFault {
-    fn fmt<W: fmt::Write>(&self, f: &mut fmt::Formatter<W>) -> fmt::Result {
-        f.write_str(match self {
-            DecimalFault::Malformed => "not a decimal number such as 18.40",
-            DecimalFault::TooManyDecimals => "a decimal number with too many decimals",
-            DecimalFault::TooLarge => "a number too large for its field",
-        })
-    }
 }
 
 // Whether a text is one digit or more, and nothing else.

@@ -9,16 +9,20 @@ use crate::decimal::{DecimalFault, Yuan, read_decimal};
 use crate::fault::MakingFault;
 use crate::price::Price;
 use std::fmt;
+use thiserror::Error;
 
 // Why a text is no price.
-#[derive(Clone, Copy, PartialEq, Eq, Debug)]
+#[derive(Clone, Copy, PartialEq, Eq, Debug, Error)]
 pub enum PriceTextFault {
     // it is no decimal number of yuan
+    #[error(transparent)]
     Text(DecimalFault),
     // it is a number, but no price
+    #[error(transparent)]
     Making(MakingFault),
 }
 
+// Both are written by hand, since what the derive writes by `#[from]` does not say which fault it gives, as `read` must.
 impl From<DecimalFault> for PriceTextFault {
     ghost from_gives = { λ f r. r ≡ fault.Text f };
 
@@ -32,15 +36,6 @@ impl From<MakingFault> for PriceTextFault {
 
     fn from(f: MakingFault) -> PriceTextFault {
         PriceTextFault::Making(f)
-    }
-}
-
-impl fmt::Display for PriceTextFault {
-    fn fmt<W: fmt::Write>(&self, f: &mut fmt::Formatter<W>) -> fmt::Result {
-        match self {
-            PriceTextFault::Text(fault) => write!(f, "{fault}"),
-            PriceTextFault::Making(fault) => write!(f, "{fault}"),
-        }
     }
 }
 
