@@ -14,7 +14,7 @@ pub struct Either<P, Q> {
 
 impl<P: Condition, Q: Condition> Either<P, Q> {
     pub fn new(first: P, second: Q) -> Either<P, Q>
-        ensures { either (P.Condition.meaning result.first) (Q.Condition.meaning result.second) ≡ either (P.Condition.meaning first) (Q.Condition.meaning second) }
+        ensures { ⟦<Either<P, Q> as Condition>⟧.meaning result ≡ either (P.Condition.meaning first) (Q.Condition.meaning second) }
     {
         Either { first, second }
     }

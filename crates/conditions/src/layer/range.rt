@@ -17,7 +17,7 @@ pub struct Range<C> {
 
 impl<C: Condition> Range<C> {
     pub fn new(range: PriceRange, switch: bool, below: C) -> Range<C>
-        ensures { in_range result.range result.switch (C.Condition.meaning result.below) ≡ in_range range switch (C.Condition.meaning below) }
+        ensures { ⟦<Range<C> as Condition>⟧.meaning result ≡ in_range range switch (C.Condition.meaning below) }
     {
         Range {
             range,
