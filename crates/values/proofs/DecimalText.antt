@@ -1,5 +1,5 @@
 -- Lemmas on decimal numbers in text. Assumes nothing.
-use Rattle.std.proofs.Common.{◌≡◌, ℕ, suc, ◌+◌, ◌-◌, ◌*◌, ◌/◌, ◌%◌, ◌^◌, ◌<◌, ◌≤◌, true, false, cond, not, eqb, leb, List, [], ◌∷◌, ◌++◌, length, get_or, Some, None, Ok, Err, decimal, Result, sym, refl, ap, ◌∙◌, ⊎_elim, mul_assoc, mul-one, le-mul_of_pos_right, arith, rules}
+use Rattle.std.proofs.Common.{◌≡◌, ℕ, suc, ◌+◌, ◌-◌, ◌*◌, ◌/◌, ◌%◌, ◌^◌, ◌<◌, ◌≤◌, true, false, cond, not, eqb, leb, List, [], ◌∷◌, ◌++◌, length, get_or, Some, None, Ok, Err, decimal, Option, Result, sym, refl, ap, ◌∙◌, subst, ⊎_elim, mul_assoc, mul-one, le-mul_of_pos_right, arith, rules}
 use native.Mathlib.Nat.{pow-succ', one-le-pow, div-div-eq-div-mul}
 use Rattle.std.proofs.lemmas.Fmt.{decimal_digit, digits_decimal, digits_value-decimal, decimal_nonempty}
 use Rattle.std.proofs.lemmas.Str.Parse.{IsNumeralModel, numerals_by_weight, tells_all_ascii_digits, parse_digits, not_in_digits}
@@ -8,7 +8,12 @@ use Rattle.std.proofs.lemmas.Bool.Decides.{nat_tests}
 use Rattle.std.specs.Str.Parse.{ParsesUnsigned}
 use Rattle.std.specs.Char.{is_ascii_digit}
 use Rattle.std.proofs.lemmas.Result.{err_from_is_err_and}
-use Rattle.std.specs.List.{list_all}
+use Rattle.std.proofs.lemmas.Iterator.{YieldsList}
+use Rattle.std.proofs.lemmas.Iterator.Consumers.{YieldsList-turn, YieldsList-end}
+use Rattle.std.proofs.lemmas.Nat.{pow-add}
+use Rattle.std.specs.Iterator.{Yields}
+use Rattle.std.specs.List.{list_all, FoldsTo}
+use Rattle.std.specs.Option.{MatchOption, ok_or}
 use Rattle.std.specs.Result.{MatchResult, IsErrAnd}
 use Rattle.std.specs.Str.{all_ascii_digits}
 use Rattle.values.specs.declared.decimal.DecimalFault.{DecimalFault}
@@ -56,25 +61,39 @@ read_as ds (Err e) r P large h reads k =
 zeros_le : (n k : ℕ) → n ≤ n * 10 ^ k
 zeros_le n k = le-mul_of_pos_right n (one-le-pow k 10 (omega arith))
 
--- of z zeros i are put, and one more comes
-zeros_more : (n z i : ℕ) → i < z → n * 10 ^ (z - i) ≡ n * 10 * 10 ^ (z - (i + 1))
-zeros_more n z i h =
-    let next : z - i ≡ suc (z - (i + 1)) = omega arith in
-    ap (λ k. n * 10 ^ k) next ∙ ap (λ k. n * k) (pow-succ' 10 (z - (i + 1))) ∙ sym (mul_assoc n 10 (10 ^ (z - (i + 1))))
+zero_more : (n k : ℕ) → n * 10 * 10 ^ k ≡ n * 10 ^ suc k
+zero_more n k = mul_assoc n 10 (10 ^ k) ∙ ap (λ m. n * m) (sym (pow-succ' 10 k))
 
-pub zeros_again : (n more z i t : ℕ) → i < z → more ≡ n * 10 → n * 10 ^ (z - i) ≡ t → more * 10 ^ (z - (i + 1)) ≡ t
-zeros_again n more z i t h e inv = ap (λ k. k * 10 ^ (z - (i + 1))) e ∙ sym (zeros_more n z i h) ∙ inv
+-- turns that each put one zero behind the number
+pub zeros_turned : {F : Type 0} (R : F × ℕ → ℕ → F × ℕ → Type 0) → ((p : F × ℕ) (x : ℕ) (q : F × ℕ) → R p x q → (q.1 < 2 ^ 32) × (q.1 ≡ p.1 * 10))
+    → (xs : List ℕ) (p q : F × ℕ) → FoldsTo R p xs q → p.1 < 2 ^ 32 → (q.1 < 2 ^ 32) × (q.1 ≡ p.1 * 10 ^ length xs)
+zeros_turned R turn [] p q e small = (subst (λ r. r.1 < 2 ^ 32) e small, ap (λ r. r.1) (sym e) ∙ sym (mul-one p.1))
+zeros_turned R turn (x ∷ xs) p q w small =
+    let one = turn p x w.0 w.1 in
+    let rest = zeros_turned R turn xs w.0 q w.2 one.0 in
+    (rest.0, rest.1 ∙ ap (λ n. n * 10 ^ length xs) one.1 ∙ zero_more p.1 (length xs))
 
-pub zeros_done : (n z i t : ℕ) → z ≤ i → n < 2 ^ 32 → n * 10 ^ (z - i) ≡ t → Ok n ≡ fitted t
-zeros_done n z i t h small inv =
-    let none : z - i ≡ 0 = omega arith in
-    sym (fitted_below n small) ∙ ap fitted (sym (ap (λ k. n * 10 ^ k) none ∙ mul-one n) ∙ inv)
+-- how many of z turns there were: all, or fewer where one broke off
+pub turns_counted : {S : Type 0} (steps : S → Option ℕ → S → Type 0) (s t u : S) (z : ℕ) (xs all : List ℕ) (o : Option ℕ)
+    → YieldsList steps (λ x. x) s all → length all ≡ z → Yields steps s xs t → steps t o u → MatchOption o (length xs ≡ z) (λ _. length xs < z)
+turns_counted steps s t u z xs all None road long y next = (YieldsList-end road xs t y None u refl next).1 ∙ long
+turns_counted steps s t u z xs all (Some x) road long y next = let turn = YieldsList-turn road xs t y (Some x) u x refl next in omega arith
 
-pub zeros_over : (n z i t : ℕ) → i < z → (n * 10 < 2 ^ 32 → ⊥) → n * 10 ^ (z - i) ≡ t → Err TooLarge ≡ fitted t
-zeros_over n z i t h over inv =
-    ⊎_elim
-    (λ low. absurd (over low))
-    (λ high. sym (fitted_above t (omega (arith, zeros_le (n * 10) (z - (i + 1)), zeros_more n z i h, inv))))
+-- n with i of z zeros put behind it
+pub zeros_put : (start z i n : ℕ) (o r : Option ℕ) → (n < 2 ^ 32) × (n ≡ start * 10 ^ i) → MatchOption o (i ≡ z) (λ _. i < z)
+    → MatchOption o (r ≡ Some n) (λ _. (n * 10 < 2 ^ 32 → ⊥) × (r ≡ None)) → ok_or r TooLarge ≡ fitted (start * 10 ^ z)
+zeros_put start z i n None r is all e =
+    ap (λ r. ok_or r TooLarge) e ∙ sym (fitted_below n is.0) ∙ ap fitted (is.1 ∙ ap (λ k. start * 10 ^ k) all)
+zeros_put start z i n (Some x) r is fewer broke =
+    let k : ℕ = z - (i + 1) in
+    let split : i + suc k ≡ z = omega arith in
+    let whole : n * 10 * 10 ^ k ≡ start * 10 ^ z =
+    zero_more n k ∙ ap (λ m. m * 10 ^ suc k) is.1 ∙ mul_assoc start (10 ^ i) (10 ^ suc k) ∙ ap (λ m. start * m) (sym (pow-add 10 i (suc k))) ∙ ap (λ m. start * 10 ^ m) split
+    in
+    ap (λ r. ok_or r TooLarge) broke.1
+    ∙ ⊎_elim
+    (λ low. absurd (broke.0 low))
+    (λ high. sym (fitted_above (start * 10 ^ z) (omega (arith, zeros_le (n * 10) k, whole))))
     (cases_lt (n * 10) (2 ^ 32))
 
 pub digits_numeral : (ds : List ℕ) → all_ascii_digits ds ≡ true → not (eqb (length ds) 0) ≡ numeral ds

@@ -39,14 +39,9 @@ fn read_numeral(digits: &str) -> Result<u32, DecimalFault>
 fn with_zeros(start: u32, zeros: u8) -> Result<u32, DecimalFault>
     ensures { result ≡ fitted (start * 10 ^ zeros) }
 {
-    let mut n = start;
-    for _ in 0..zeros {
-        let Some(more) = n.checked_mul(10) else {
-            return Err(DecimalFault::TooLarge);
-        };
-        n = more;
-    }
-    Ok(n)
+    (0..zeros)
+        .try_fold(start, |number, _| number.checked_mul(10))
+        .ok_or(DecimalFault::TooLarge)
 }
 
 // The number that digits write, with zeros put behind it.
