@@ -27,11 +27,7 @@ fn join(next: Next, other: Answer) -> Next
     match other {
         Answer::Wait => next,
         Answer::Lapses => Next::Over,
-        Answer::Fires(f) => match (next, f.next) {
-            (Next::Over, _) | (_, Next::Over) => Next::Over,
-            (Next::AwaitsSettlement, _) | (_, Next::AwaitsSettlement) => Next::AwaitsSettlement,
-            (Next::GoesOn, Next::GoesOn) => Next::GoesOn,
-        },
+        Answer::Fires(f) => next.max(f.next),
     }
 }
 
@@ -39,21 +35,15 @@ fn join(next: Next, other: Answer) -> Next
 fn combine(first: Answer, second: Answer) -> Answer
     ensures { result ≡ both first second }
 {
-    match first {
-        Answer::Fires(f) => Answer::Fires(Fire {
-            side: f.side,
-            trigger: f.trigger,
-            next: join(f.next, second),
-        }),
-        Answer::Lapses => match second {
-            Answer::Fires(f) => Answer::Fires(Fire {
-                side: f.side,
-                trigger: f.trigger,
-                next: join(f.next, first),
-            }),
-            Answer::Lapses | Answer::Wait => Answer::Lapses,
-        },
-        Answer::Wait => second,
+    match (first, second) {
+        (Answer::Fires(f), other) | (other @ Answer::Lapses, Answer::Fires(f)) => {
+            Answer::Fires(Fire {
+                next: join(f.next, other),
+                ..f
+            })
+        }
+        (Answer::Lapses, _) => Answer::Lapses,
+        (Answer::Wait, _) => second,
     }
 }
 
