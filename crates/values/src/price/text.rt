@@ -45,9 +45,7 @@ impl Price {
         ensures value { result ≡ price_read text.now }
         ensures back { (p : Checked) → text.now ≡ yuan_text p.value → result ≡ Ok p }
     {
-        let value = read_decimal(text, 4)?;
-        let price = Price::new(value)?;
-        Ok(price)
+        Ok(Price::new(read_decimal(text, 4)?)?)
     }
 }
 
@@ -55,7 +53,6 @@ impl fmt::Display for Price {
     ghost output = { λ p. Some (yuan_text p.value) };
 
     fn fmt<W: fmt::Write>(&self, f: &mut fmt::Formatter<W>) -> fmt::Result {
-        let yuan = Yuan(self.value);
-        write!(f, "{yuan}")
+        Yuan(self.value).fmt(f)
     }
 }
