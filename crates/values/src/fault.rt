@@ -34,7 +34,7 @@ pub enum MakingFault {
 }
 
 impl MakingFault {
-    // The number by which a refusal is known.
+    // The number by which a refusal is known where plain numbers are passed.
     pub fn number(&self) -> u8
         ensures { result ≡ making_number self.now }
     {

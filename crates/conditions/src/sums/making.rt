@@ -9,7 +9,7 @@ use crate::sums::Sums;
 use values::days::AveragingDays;
 use values::price::Price;
 
-// A `for` loop and no `sum`: so a rule of the project wants the sums taken.
+// By a rule of the project the sums are taken by a `for` loop.
 fn total(closes: &[Price]) -> u64
     requires { length closes.now ≤ 59 }
     ensures value { result ≡ sum_by (λ p. p.value) closes.now }
