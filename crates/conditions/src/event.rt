@@ -38,8 +38,8 @@ pub enum Side {
     Sell,
 }
 
-// What follows a fire.
-#[derive(Clone, Copy, PartialEq, Eq, Debug)]
+// What follows a fire. Of two fires at once the later one of this order follows.
+#[derive(Clone, Copy, PartialEq, Eq, PartialOrd, Ord, Debug)]
 pub enum Next {
     GoesOn,
     AwaitsSettlement,
@@ -58,14 +58,13 @@ impl Fire {
     pub fn over_at(side: Side, trigger: Option<Price>) -> Answer
         ensures { result ≡ fires_over side trigger }
     {
-        match trigger {
-            Some(trigger) => Answer::Fires(Fire {
+        trigger.map_or(Answer::Wait, |trigger| {
+            Answer::Fires(Fire {
                 side,
                 trigger,
                 next: Next::Over,
-            }),
-            None => Answer::Wait,
-        }
+            })
+        })
     }
 }
 

@@ -1,13 +1,21 @@
 -- Lemmas on decimal numbers in text. Assumes nothing.
-use Rattle.std.proofs.Common.{◌≡◌, ℕ, suc, ◌+◌, ◌-◌, ◌*◌, ◌/◌, ◌%◌, ◌^◌, ◌<◌, ◌≤◌, true, false, cond, not, ◌&&◌, eqb, leb, List, [], ◌∷◌, ◌++◌, length, get_or, drop, Some, None, Ok, Err, decimal, Result, sym, refl, ap, ◌∙◌, ⊎_elim, mul_assoc, mul-one, le-mul_of_pos_right, arith, rules}
+use Rattle.std.proofs.Common.{◌≡◌, ℕ, suc, ◌+◌, ◌-◌, ◌*◌, ◌/◌, ◌%◌, ◌^◌, ◌<◌, ◌≤◌, true, false, cond, not, eqb, leb, List, [], ◌∷◌, ◌++◌, length, get_or, Some, None, Ok, Err, decimal, Option, Result, sym, refl, ap, ◌∙◌, subst, ⊎_elim, mul_assoc, mul-one, le-mul_of_pos_right, arith, rules}
 use native.Mathlib.Nat.{pow-succ', one-le-pow, div-div-eq-div-mul}
-use Rattle.std.proofs.lemmas.Fmt.{decimal_digit, digits_decimal, digits_value-decimal, decimal_nonempty}
-use Rattle.std.proofs.lemmas.List.{at_drop_more}
+use Rattle.std.proofs.lemmas.Fmt.{decimal_digit, decimal_step, digits_decimal, digits_value-decimal, decimal_nonempty}
 use Rattle.std.proofs.lemmas.Str.Parse.{IsNumeralModel, numerals_by_weight, tells_all_ascii_digits, parse_digits, not_in_digits}
 use Rattle.std.proofs.lemmas.Bool.{ne_eqb, lt-ltb, le-ltb, le-leb, and_from, cases_lt}
 use Rattle.std.proofs.lemmas.Bool.Decides.{nat_tests}
 use Rattle.std.specs.Str.Parse.{ParsesUnsigned}
 use Rattle.std.specs.Char.{is_ascii_digit}
+use Rattle.std.proofs.lemmas.Result.{err_from_is_err_and}
+use Rattle.std.proofs.lemmas.Iterator.{YieldsList}
+use Rattle.std.proofs.lemmas.Iterator.Consumers.{YieldsList-turn, YieldsList-end}
+use Rattle.std.proofs.lemmas.Nat.{pow-add}
+use Rattle.std.specs.Fmt.{padded_integral, format_spec, char_count, styled_decimal}
+use Rattle.std.specs.Iterator.{Yields}
+use Rattle.std.specs.List.{list_all, FoldsTo}
+use Rattle.std.specs.Option.{MatchOption, ok_or}
+use Rattle.std.specs.Result.{MatchResult, IsErrAnd}
 use Rattle.std.specs.Str.{all_ascii_digits}
 use Rattle.values.specs.declared.decimal.DecimalFault.{DecimalFault}
 use Rattle.values.specs.declared.decimal.DecimalFault.TheVariants.{Malformed, TooManyDecimals, TooLarge}
@@ -32,55 +40,71 @@ numeral_some [] h = grind arith
 numeral_some (c ∷ cs) h = omega arith
 
 -- what `parse` says of digits. Its error says nothing, so a number stands for it here
-pub read_ok : (ds : List ℕ) (x : ℕ) → numeral ds ≡ true → ParsesUnsigned {E = ℕ} 32 10 ds (Ok x) → Ok x ≡ fitted (number ds)
+read_ok : (ds : List ℕ) (x : ℕ) → numeral ds ≡ true → ParsesUnsigned {E = ℕ} 32 10 ds (Ok x) → Ok x ≡ fitted (number ds)
 read_ok ds x h reads =
     let p = parse_digits own {E = ℕ} 32 ds (Ok x) reads (numeral_digits ds h) in
     ap Ok p.1 ∙ sym (fitted_below (number ds) p.0.1)
 
-pub read_err : (ds : List ℕ) → numeral ds ≡ true → ParsesUnsigned {E = ℕ} 32 10 ds (Err 0) → Err TooLarge ≡ fitted (number ds)
+read_err : (ds : List ℕ) → numeral ds ≡ true → ParsesUnsigned {E = ℕ} 32 10 ds (Err 0) → Err TooLarge ≡ fitted (number ds)
 read_err ds h reads =
     let p = parse_digits own {E = ℕ} 32 ds (Err 0) reads (numeral_digits ds h) in
     ⊎_elim (λ low. absurd (p (numeral_some ds h, low))) (λ high. sym (fitted_above (number ds) high)) (cases_lt (number ds) (2 ^ 32))
+
+-- what `parse` says, with its error made into `TooLarge`
+pub read_as : {E : Type 0} (ds : List ℕ) (p : Result ℕ E) (r : Result ℕ DecimalFault) (P : E → DecimalFault → Type 0) → ((e : E) (f : DecimalFault) → P e f → f ≡ TooLarge)
+    → numeral ds ≡ true → ParsesUnsigned 32 10 ds p → MatchResult p (λ x. r ≡ Ok x) (λ e. IsErrAnd r (P e)) → r ≡ fitted (number ds)
+read_as ds (Ok x) r P large h reads e = e ∙ read_ok ds x h reads
+read_as ds (Err e) r P large h reads k =
+    let f = err_from_is_err_and r k in
+    f.1 ∙ ap Err (large e f.0 f.2) ∙ read_err ds h reads
 
 -- n with k zeros put behind it is n or more
 zeros_le : (n k : ℕ) → n ≤ n * 10 ^ k
 zeros_le n k = le-mul_of_pos_right n (one-le-pow k 10 (omega arith))
 
--- of z zeros i are put, and one more comes
-zeros_more : (n z i : ℕ) → i < z → n * 10 ^ (z - i) ≡ n * 10 * 10 ^ (z - (i + 1))
-zeros_more n z i h =
-    let next : z - i ≡ suc (z - (i + 1)) = omega arith in
-    ap (λ k. n * 10 ^ k) next ∙ ap (λ k. n * k) (pow-succ' 10 (z - (i + 1))) ∙ sym (mul_assoc n 10 (10 ^ (z - (i + 1))))
+zero_more : (n k : ℕ) → n * 10 * 10 ^ k ≡ n * 10 ^ suc k
+zero_more n k = mul_assoc n 10 (10 ^ k) ∙ ap (λ m. n * m) (sym (pow-succ' 10 k))
 
-pub zeros_again : (n more z i t : ℕ) → i < z → more ≡ n * 10 → n * 10 ^ (z - i) ≡ t → more * 10 ^ (z - (i + 1)) ≡ t
-zeros_again n more z i t h e inv = ap (λ k. k * 10 ^ (z - (i + 1))) e ∙ sym (zeros_more n z i h) ∙ inv
+-- turns that each put one zero behind the number
+pub zeros_turned : {F : Type 0} (R : F × ℕ → ℕ → F × ℕ → Type 0) → ((p : F × ℕ) (x : ℕ) (q : F × ℕ) → R p x q → (q.1 < 2 ^ 32) × (q.1 ≡ p.1 * 10))
+    → (xs : List ℕ) (p q : F × ℕ) → FoldsTo R p xs q → p.1 < 2 ^ 32 → (q.1 < 2 ^ 32) × (q.1 ≡ p.1 * 10 ^ length xs)
+zeros_turned R turn [] p q e small = (subst (λ r. r.1 < 2 ^ 32) e small, ap (λ r. r.1) (sym e) ∙ sym (mul-one p.1))
+zeros_turned R turn (x ∷ xs) p q w small =
+    let one = turn p x w.0 w.1 in
+    let rest = zeros_turned R turn xs w.0 q w.2 one.0 in
+    (rest.0, rest.1 ∙ ap (λ n. n * 10 ^ length xs) one.1 ∙ zero_more p.1 (length xs))
 
-pub zeros_done : (n z i t : ℕ) → z ≤ i → n < 2 ^ 32 → n * 10 ^ (z - i) ≡ t → Ok n ≡ fitted t
-zeros_done n z i t h small inv =
-    let none : z - i ≡ 0 = omega arith in
-    sym (fitted_below n small) ∙ ap fitted (sym (ap (λ k. n * 10 ^ k) none ∙ mul-one n) ∙ inv)
+-- how many of z turns there were: all, or fewer where one broke off
+pub turns_counted : {S : Type 0} (steps : S → Option ℕ → S → Type 0) (s t u : S) (z : ℕ) (xs all : List ℕ) (o : Option ℕ)
+    → YieldsList steps (λ x. x) s all → length all ≡ z → Yields steps s xs t → steps t o u → MatchOption o (length xs ≡ z) (λ _. length xs < z)
+turns_counted steps s t u z xs all None road long y next = (YieldsList-end road xs t y None u refl next).1 ∙ long
+turns_counted steps s t u z xs all (Some x) road long y next = let turn = YieldsList-turn road xs t y (Some x) u x refl next in omega arith
 
-pub zeros_over : (n z i t : ℕ) → i < z → (n * 10 < 2 ^ 32 → ⊥) → n * 10 ^ (z - i) ≡ t → Err TooLarge ≡ fitted t
-zeros_over n z i t h over inv =
-    ⊎_elim
-    (λ low. absurd (over low))
-    (λ high. sym (fitted_above t (omega (arith, zeros_le (n * 10) (z - (i + 1)), zeros_more n z i h, inv))))
+-- n with i of z zeros put behind it
+pub zeros_put : (start z i n : ℕ) (o r : Option ℕ) → (n < 2 ^ 32) × (n ≡ start * 10 ^ i) → MatchOption o (i ≡ z) (λ _. i < z)
+    → MatchOption o (r ≡ Some n) (λ _. (n * 10 < 2 ^ 32 → ⊥) × (r ≡ None)) → ok_or r TooLarge ≡ fitted (start * 10 ^ z)
+zeros_put start z i n None r is all e =
+    ap (λ r. ok_or r TooLarge) e ∙ sym (fitted_below n is.0) ∙ ap fitted (is.1 ∙ ap (λ k. start * 10 ^ k) all)
+zeros_put start z i n (Some x) r is fewer broke =
+    let k : ℕ = z - (i + 1) in
+    let split : i + suc k ≡ z = omega arith in
+    let whole : n * 10 * 10 ^ k ≡ start * 10 ^ z =
+    zero_more n k ∙ ap (λ m. m * 10 ^ suc k) is.1 ∙ mul_assoc start (10 ^ i) (10 ^ suc k) ∙ ap (λ m. start * m) (sym (pow-add 10 i (suc k))) ∙ ap (λ m. start * 10 ^ m) split
+    in
+    ap (λ r. ok_or r TooLarge) broke.1
+    ∙ ⊎_elim
+    (λ low. absurd (broke.0 low))
+    (λ high. sym (fitted_above (start * 10 ^ z) (omega (arith, zeros_le (n * 10) k, whole))))
     (cases_lt (n * 10) (2 ^ 32))
-
-pub not_numeral : (ds : List ℕ) → all_ascii_digits ds ≡ false → numeral ds ≡ false
-not_numeral [] h = refl
-not_numeral (c ∷ cs) h = h
 
 pub digits_numeral : (ds : List ℕ) → all_ascii_digits ds ≡ true → not (eqb (length ds) 0) ≡ numeral ds
 digits_numeral [] h = refl
 digits_numeral (c ∷ cs) h = ap not (ne_eqb (suc (length cs)) 0 (λ e. omega arith)) ∙ sym h
 
--- one byte more of a text whose bytes are digits up to it
-pub digits_more : (ds : List ℕ) (i : ℕ) → i < length ds → is_ascii_digit (get_or ds i 0) ≡ true → all_ascii_digits (drop i ds) ≡ all_ascii_digits (drop (i + 1) ds)
-digits_more ds i h d = at_drop_more all_ascii_digits ds i 0 h ∙ ap (λ b. b && all_ascii_digits (drop (i + 1) ds)) d
-
-pub digits_broken : (ds : List ℕ) (i : ℕ) → i < length ds → is_ascii_digit (get_or ds i 0) ≡ false → all_ascii_digits (drop i ds) ≡ false
-digits_broken ds i h d = at_drop_more all_ascii_digits ds i 0 h ∙ ap (λ b. b && all_ascii_digits (drop (i + 1) ds)) d
+-- a text that is not empty, each byte of which was tested
+pub numeral_tested : (ds : List ℕ) → false ≡ eqb (length ds) 0 → list_all is_ascii_digit ds ≡ numeral ds
+numeral_tested [] h = cc
+numeral_tested (c ∷ cs) h = refl
 
 fitted_was_err : (f : DecimalFault) (m : ℕ) → Err f ≡ fitted m → (f ≡ TooLarge) × (2 ^ 32 ≤ m)
 fitted_was_err f m h =
@@ -161,11 +185,34 @@ read_back n small =
 pub back_from : (places : ℕ) (bs : List ℕ) (r : Result ℕ DecimalFault) → r ≡ decimal_read places bs → (n : ℕ) → n < 2 ^ 32 → places ≡ 4 → bs ≡ yuan_text n → r ≡ Ok n
 back_from places bs r value n small four_places shown = value ∙ (λ i. decimal_read (four_places i) (shown i)) ∙ read_back n small
 
--- a digit that is shown by itself is its byte
-pub yuan_written : (n : ℕ) → decimal (n / 10000) ++ (46 ∷ (decimal (n / 1000 % 10) ++ (decimal (n / 100 % 10) ++ (decimal (n / 10 % 10) ++ decimal (n % 10))))) ≡ yuan_text n
-yuan_written n =
-    let a = decimal_digit (n / 1000 % 10) (omega arith) in
-    let b = decimal_digit (n / 100 % 10) (omega arith) in
-    let c = decimal_digit (n / 10 % 10) (omega arith) in
-    let d = decimal_digit (n % 10) (omega arith) in
-    λ i. decimal (n / 10000) ++ (46 ∷ (a i ++ (b i ++ (c i ++ d i))))
+-- numbers of two, three and four digits
+decimal_two : (m : ℕ) → 10 ≤ m → m < 100 → decimal m ≡ (48 + m / 10) ∷ (48 + m % 10) ∷ []
+decimal_two m low high = decimal_step m low (omega arith) ∙ ap (λ ds. ds ++ ((48 + m % 10) ∷ [])) (decimal_digit (m / 10) (omega arith))
+
+decimal_three : (m : ℕ) → 100 ≤ m → m < 1000 → decimal m ≡ (48 + m / 10 / 10) ∷ (48 + m / 10 % 10) ∷ (48 + m % 10) ∷ []
+decimal_three m low high = decimal_step m (omega arith) (omega arith) ∙ ap (λ ds. ds ++ ((48 + m % 10) ∷ [])) (decimal_two (m / 10) (omega arith) (omega arith))
+
+decimal_four : (m : ℕ) → 1000 ≤ m → m < 10000 → decimal m ≡ (48 + m / 10 / 10 / 10) ∷ (48 + m / 10 / 10 % 10) ∷ (48 + m / 10 % 10) ∷ (48 + m % 10) ∷ []
+decimal_four m low high = decimal_step m (omega arith) (omega arith) ∙ ap (λ ds. ds ++ ((48 + m % 10) ∷ [])) (decimal_three (m / 10) (omega arith) (omega arith))
+
+same_four : {a b c d e f g h : ℕ} → a ≡ e → b ≡ f → c ≡ g → d ≡ h → ◌≡◌ {A = List ℕ} (a ∷ b ∷ c ∷ d ∷ []) (e ∷ f ∷ g ∷ h ∷ [])
+same_four p q r s = cc
+
+-- what `{:04}` writes of the last four digits
+four_written : (n : ℕ) → padded_integral (format_spec 32 0 4 4 (2 ^ 64 - 1)) false [] (decimal (n % 10000)) ≡ (48 + n / 1000 % 10) ∷ (48 + n / 100 % 10) ∷ (48 + n / 10 % 10) ∷ (48 + n % 10) ∷ []
+unfolding padded_integral char_count
+four_written n =
+    let m : ℕ = n % 10000 in
+    ⊎_elim
+    (λ one. rw (decimal_digit m one) (same_four (omega arith) (omega arith) (omega arith) (omega arith)))
+    (λ more. ⊎_elim
+    (λ two. rw (decimal_two m more two) (same_four (omega arith) (omega arith) (omega arith) (omega arith)))
+    (λ more. ⊎_elim
+    (λ three. rw (decimal_three m more three) (same_four (omega arith) (omega arith) (omega arith) (omega arith)))
+    (λ more. rw (decimal_four m more (omega arith)) (same_four (omega arith) (omega arith) (omega arith) (omega arith)))
+    (cases_lt m 1000))
+    (cases_lt m 100))
+    (cases_lt m 10)
+
+pub yuan_written : (n : ℕ) (s : _) → s ≡ format_spec 32 0 4 4 (2 ^ 64 - 1) → decimal (n / 10000) ++ (46 ∷ styled_decimal s (n % 10000)) ≡ yuan_text n
+yuan_written n s e = ap (λ o. decimal (n / 10000) ++ (46 ∷ styled_decimal o (n % 10000))) e ∙ ap (λ ds. decimal (n / 10000) ++ (46 ∷ ds)) (four_written n)

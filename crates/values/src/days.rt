@@ -16,6 +16,7 @@ pub enum AveragingDays {
 }
 
 impl AveragingDays {
+    // A `new` and no `TryFrom`, as of all checked values.
     pub fn new(days: u32) -> Result<AveragingDays, MakingFault>
         ensures { seen day_count result ≡ (if averaged days then Ok days else Err fault.Days) }
     {

@@ -4,38 +4,27 @@ ghost use Rattle.values.specs.Decimals.{numeral, number, fitted, of_parts, decim
 
 use std::alloc::{AllocError, Global};
 use std::fmt;
+use thiserror::Error;
 
 // What is wrong with a text that is read as a decimal number. Where several things are, the first of these is named.
-#[derive(Clone, Copy, PartialEq, Eq, Debug)]
+#[derive(Clone, Copy, PartialEq, Eq, Debug, Error)]
 pub enum DecimalFault {
     // It is neither digits alone nor digits, a point and digits.
+    #[error("not a decimal number such as 18.40")]
     Malformed,
     // It has more decimals than the amount may have.
+    #[error("a decimal number with too many decimals")]
     TooManyDecimals,
     // The number does not fit 32 bits.
+    #[error("a number too large for its field")]
     TooLarge,
-}
-
-impl fmt::Display for DecimalFault {
-    fn fmt<W: fmt::Write>(&self, f: &mut fmt::Formatter<W>) -> fmt::Result {
-        f.write_str(match self {
-            DecimalFault::Malformed => "not a decimal number such as 18.40",
-            DecimalFault::TooManyDecimals => "a decimal number with too many decimals",
-            DecimalFault::TooLarge => "a number too large for its field",
-        })
-    }
 }
 
 // Whether a text is one digit or more, and nothing else.
 fn is_numeral(text: &str) -> bool
     ensures { result ≡ numeral text.now }
 {
-    for b in text.as_bytes() {
-        if !b.is_ascii_digit() {
-            return false;
-        }
-    }
-    !text.is_empty()
+    !text.is_empty() && text.bytes().all(|b| b.is_ascii_digit())
 }
 
 // The number that digits write, however many they are. `parse` also takes a `+` in front, so the text is looked at before.
@@ -43,24 +32,16 @@ fn read_numeral(digits: &str) -> Result<u32, DecimalFault>
     requires { numeral digits.now ≡ true }
     ensures { result ≡ fitted (number digits.now) }
 {
-    match digits.parse::<u32>() {
-        Ok(n) => Ok(n),
-        Err(_) => Err(DecimalFault::TooLarge),
-    }
+    digits.parse::<u32>().map_err(|_| DecimalFault::TooLarge)
 }
 
 // A number with zeros put behind it. They are put one by one, since 10^zeros alone may not fit where the number is 0.
 fn with_zeros(start: u32, zeros: u8) -> Result<u32, DecimalFault>
     ensures { result ≡ fitted (start * 10 ^ zeros) }
 {
-    let mut n = start;
-    for _ in 0..zeros {
-        let Some(more) = n.checked_mul(10) else {
-            return Err(DecimalFault::TooLarge);
-        };
-        n = more;
-    }
-    Ok(n)
+    (0..zeros)
+        .try_fold(start, |number, _| number.checked_mul(10))
+        .ok_or(DecimalFault::TooLarge)
 }
 
 // The number that digits write, with zeros put behind it.
@@ -112,21 +93,12 @@ pub fn read_decimal(text: &str, places: u8) -> Result<u32, DecimalFault>
 #[derive(Clone, Copy, PartialEq, Eq, Debug)]
 pub struct Yuan(pub u32);
 
-// Yuan with exactly four decimals. Each decimal is written by itself and not by `{:04}`: nothing is proved of what a width writes.
+// Yuan with exactly four decimals.
 impl fmt::Display for Yuan {
     ghost output = { λ y. Some (yuan_text y.0) };
 
     fn fmt<W: fmt::Write>(&self, f: &mut fmt::Formatter<W>) -> fmt::Result {
-        let n = self.0;
-        write!(
-            f,
-            "{}.{}{}{}{}",
-            n / 10_000,
-            n / 1000 % 10,
-            n / 100 % 10,
-            n / 10 % 10,
-            n % 10
-        )
+        write!(f, "{}.{:04}", self.0 / 10_000, self.0 % 10_000)
     }
 }
 

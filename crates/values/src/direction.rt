@@ -46,6 +46,7 @@ pub trait Direction {
         ensures found { is_some result ≡ order (target step base.value) price.value }
     {
         let goal = Self::target_of(step, base);
+        // No `then_some`, which would make the price first: the target is known to be a price only where it is reached.
         if Self::reaches(price.value as u64, goal as u64) {
             Some(Price { value: goal })
         } else {

@@ -3,6 +3,7 @@ ghost use Rattle.values.specs.Bounds.{least_hold, greatest_hold};
 ghost use Rattle.values.specs.Making.{seen, checked};
 ghost use Rattle.values.specs.declared.fault.MakingFault.TheVariants as fault;
 
+use crate::bounds::within;
 use crate::fault::MakingFault;
 
 // For how many seconds a test has to hold.
@@ -21,9 +22,7 @@ impl Hold {
     pub fn new(seconds: u32) -> Result<Hold, MakingFault>
         ensures { seen (λ h. h.seconds) result ≡ checked least_hold greatest_hold fault.Hold seconds }
     {
-        if seconds < Self::LEAST || seconds > Self::GREATEST {
-            return Err(MakingFault::Hold);
-        }
+        let seconds = within(Self::LEAST, Self::GREATEST, MakingFault::Hold, seconds)?;
         Ok(Hold { seconds })
     }
 

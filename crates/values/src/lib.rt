@@ -1,6 +1,7 @@
 // The checked numbers of the trade, the two directions in which a price can go, and prices as text.
 #![tactic(auto)]
 
+mod bounds;
 pub mod days;
 pub mod decimal;
 pub mod direction;

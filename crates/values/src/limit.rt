@@ -3,6 +3,7 @@ ghost use Rattle.values.specs.Bounds.{greatest_limit};
 ghost use Rattle.values.specs.Making.{seen, checked};
 ghost use Rattle.values.specs.declared.fault.MakingFault.TheVariants as fault;
 
+use crate::bounds::within;
 use crate::fault::MakingFault;
 
 // How far an order's price may lie on the worse side of its trigger price, in hundredths of a percent.
@@ -18,9 +19,7 @@ impl Limit {
     pub fn new(value: u32) -> Result<Limit, MakingFault>
         ensures { seen (λ l. l.value) result ≡ checked 0 greatest_limit fault.Limit value }
     {
-        if value > Self::GREATEST {
-            return Err(MakingFault::Limit);
-        }
+        let value = within(0, Self::GREATEST, MakingFault::Limit, value)?;
         Ok(Limit { value })
     }
 

@@ -3,6 +3,7 @@ ghost use Rattle.values.specs.Bounds.{least_price, greatest_price};
 ghost use Rattle.values.specs.Making.{seen, checked};
 ghost use Rattle.values.specs.declared.fault.MakingFault.TheVariants as fault;
 
+use crate::bounds::within;
 use crate::fault::MakingFault;
 
 pub mod text;
@@ -23,9 +24,7 @@ impl Price {
     pub fn new(value: u32) -> Result<Price, MakingFault>
         ensures { seen (λ p. p.value) result ≡ checked least_price greatest_price fault.Price value }
     {
-        if value < Self::LEAST || value > Self::GREATEST {
-            return Err(MakingFault::Price);
-        }
+        let value = within(Self::LEAST, Self::GREATEST, MakingFault::Price, value)?;
         Ok(Price { value })
     }
 

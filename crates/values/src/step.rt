@@ -3,6 +3,7 @@ ghost use Rattle.values.specs.Bounds.{least_percentage, greatest_percentage, lea
 ghost use Rattle.values.specs.Making.{seen, checked};
 ghost use Rattle.values.specs.declared.fault.MakingFault.TheVariants as fault;
 
+use crate::bounds::within;
 use crate::fault::MakingFault;
 
 // A percentage of a price, in hundredths of a percent.
@@ -21,9 +22,7 @@ impl Percentage {
     pub fn new(value: u32) -> Result<Percentage, MakingFault>
         ensures { seen (λ p. p.value) result ≡ checked least_percentage greatest_percentage fault.Step value }
     {
-        if value < Self::LEAST || value > Self::GREATEST {
-            return Err(MakingFault::Step);
-        }
+        let value = within(Self::LEAST, Self::GREATEST, MakingFault::Step, value)?;
         Ok(Percentage { value })
     }
 
@@ -50,9 +49,7 @@ impl Difference {
     pub fn new(value: u32) -> Result<Difference, MakingFault>
         ensures { seen (λ d. d.value) result ≡ checked least_difference greatest_difference fault.Step value }
     {
-        if value < Self::LEAST || value > Self::GREATEST {
-            return Err(MakingFault::Step);
-        }
+        let value = within(Self::LEAST, Self::GREATEST, MakingFault::Step, value)?;
         Ok(Difference { value })
     }
 

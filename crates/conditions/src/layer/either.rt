@@ -14,7 +14,7 @@ pub struct Either<P, Q> {
 
 impl<P: Condition, Q: Condition> Either<P, Q> {
     pub fn new(first: P, second: Q) -> Either<P, Q>
-        ensures { either (P.Condition.meaning result.first) (Q.Condition.meaning result.second) ≡ either (P.Condition.meaning first) (Q.Condition.meaning second) }
+        ensures { ⟦<Either<P, Q> as Condition>⟧.meaning result ≡ either (P.Condition.meaning first) (Q.Condition.meaning second) }
     {
         Either { first, second }
     }
@@ -27,11 +27,7 @@ fn join(next: Next, other: Answer) -> Next
     match other {
         Answer::Wait => next,
         Answer::Lapses => Next::Over,
-        Answer::Fires(f) => match (next, f.next) {
-            (Next::Over, _) | (_, Next::Over) => Next::Over,
-            (Next::AwaitsSettlement, _) | (_, Next::AwaitsSettlement) => Next::AwaitsSettlement,
-            (Next::GoesOn, Next::GoesOn) => Next::GoesOn,
-        },
+        Answer::Fires(f) => next.max(f.next),
     }
 }
 
@@ -39,21 +35,15 @@ fn join(next: Next, other: Answer) -> Next
 fn combine(first: Answer, second: Answer) -> Answer
     ensures { result ≡ both first second }
 {
-    match first {
-        Answer::Fires(f) => Answer::Fires(Fire {
-            side: f.side,
-            trigger: f.trigger,
-            next: join(f.next, second),
-        }),
-        Answer::Lapses => match second {
-            Answer::Fires(f) => Answer::Fires(Fire {
-                side: f.side,
-                trigger: f.trigger,
-                next: join(f.next, first),
-            }),
-            Answer::Lapses | Answer::Wait => Answer::Lapses,
-        },
-        Answer::Wait => second,
+    match (first, second) {
+        (Answer::Fires(f), other) | (other @ Answer::Lapses, Answer::Fires(f)) => {
+            Answer::Fires(Fire {
+                next: join(f.next, other),
+                ..f
+            })
+        }
+        (Answer::Lapses, _) => Answer::Lapses,
+        (Answer::Wait, _) => second,
     }
 }
 

@@ -17,27 +17,15 @@ pub struct Bounds {
     pub switch: bool,
 }
 
-// The last day, where none is given one that no day comes after.
-fn last_day(last: Option<u16>) -> u16
-    ensures { result ≡ last_or last }
-{
-    match last {
-        Some(day) => day,
-        None => u16::MAX,
-    }
-}
-
 // A missing layer is one that ends nothing: a last day that no day comes after, and a range of all prices.
 pub fn pile<C: Condition>(last: Option<u16>, bounds: Option<Bounds>, below: C) -> Pile<C>
-    ensures means { until result.last (in_range result.below.range result.below.switch (C.Condition.meaning result.below.below)) ≡ until (last_or last) (in_range (span_or bounds) (switch_or bounds) (C.Condition.meaning below)) }
+    ensures means { ⟦<Pile<C> as Condition>⟧.meaning result ≡ until (last_or last) (in_range (span_or bounds) (switch_or bounds) (C.Condition.meaning below)) }
     ensures lawful { PilesLawful }
 {
     let bounds = bounds.unwrap_or(Bounds {
         range: PriceRange::whole(),
         switch: false,
     });
-    Until::new(
-        last_day(last),
-        Range::new(bounds.range, bounds.switch, below),
-    )
+    let last = last.unwrap_or(u16::MAX);
+    Until::new(last, Range::new(bounds.range, bounds.switch, below))
 }

@@ -17,7 +17,7 @@ pub struct Range<C> {
 
 impl<C: Condition> Range<C> {
     pub fn new(range: PriceRange, switch: bool, below: C) -> Range<C>
-        ensures { in_range result.range result.switch (C.Condition.meaning result.below) ≡ in_range range switch (C.Condition.meaning below) }
+        ensures { ⟦<Range<C> as Condition>⟧.meaning result ≡ in_range range switch (C.Condition.meaning below) }
     {
         Range {
             range,
@@ -31,10 +31,7 @@ impl<C: Condition> Range<C> {
 fn is_outside(range: PriceRange, event: Event) -> bool
     ensures { result ≡ outside range event }
 {
-    match event {
-        Event::Tick(t) => !range.contains(t.price),
-        Event::Day(_) | Event::Settlement(_) => false,
-    }
+    matches!(event, Event::Tick(t) if !range.contains(t.price))
 }
 
 // What an answer from below becomes outside the range.
@@ -43,9 +40,8 @@ fn leave(switch: bool, answer: Answer) -> Answer
 {
     match answer {
         Answer::Fires(f) if switch => Answer::Fires(Fire {
-            side: f.side,
-            trigger: f.trigger,
             next: Next::Over,
+            ..f
         }),
         _ => Answer::Lapses,
     }

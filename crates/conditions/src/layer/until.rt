@@ -14,7 +14,7 @@ pub struct Until<C> {
 
 impl<C: Condition> Until<C> {
     pub fn new(last: u16, below: C) -> Until<C>
-        ensures { until result.last (C.Condition.meaning result.below) ≡ until last (C.Condition.meaning below) }
+        ensures { ⟦<Until<C> as Condition>⟧.meaning result ≡ until last (C.Condition.meaning below) }
     {
         Until { last, below }
     }

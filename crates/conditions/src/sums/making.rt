@@ -9,6 +9,7 @@ use crate::sums::Sums;
 use values::days::AveragingDays;
 use values::price::Price;
 
+// By a rule of the project the sums are taken by a `for` loop.
 fn total(closes: &[Price]) -> u64
     requires { length closes.now ≤ 59 }
     ensures value { result ≡ sum_by (λ p. p.value) closes.now }
@@ -39,17 +40,12 @@ impl Sums {
     pub fn of(closes: &[Price]) -> Sums
         ensures { (n : DaysOf) → sum_before n result ≡ newest_sum (day_count n - 1) closes.now }
     {
-        let four = newest(closes, 4);
-        let nine = newest(closes, 9);
-        let nineteen = newest(closes, 19);
-        let twentynine = newest(closes, 29);
-        let fiftynine = newest(closes, 59);
         Sums {
-            four,
-            nine,
-            nineteen,
-            twentynine,
-            fiftynine,
+            four: newest(closes, 4),
+            nine: newest(closes, 9),
+            nineteen: newest(closes, 19),
+            twentynine: newest(closes, 29),
+            fiftynine: newest(closes, 59),
         }
     }
 

@@ -9,16 +9,20 @@ use crate::decimal::{DecimalFault, Yuan, read_decimal};
 use crate::fault::MakingFault;
 use crate::price::Price;
 use std::fmt;
+use thiserror::Error;
 
 // Why a text is no price.
-#[derive(Clone, Copy, PartialEq, Eq, Debug)]
+#[derive(Clone, Copy, PartialEq, Eq, Debug, Error)]
 pub enum PriceTextFault {
     // it is no decimal number of yuan
+    #[error(transparent)]
     Text(DecimalFault),
     // it is a number, but no price
+    #[error(transparent)]
     Making(MakingFault),
 }
 
+// Both are written by hand, since what the derive writes by `#[from]` does not say which fault it gives, as `read` must.
 impl From<DecimalFault> for PriceTextFault {
     ghost from_gives = { λ f r. r ≡ fault.Text f };
 
@@ -35,24 +39,13 @@ impl From<MakingFault> for PriceTextFault {
     }
 }
 
-impl fmt::Display for PriceTextFault {
-    fn fmt<W: fmt::Write>(&self, f: &mut fmt::Formatter<W>) -> fmt::Result {
-        match self {
-            PriceTextFault::Text(fault) => write!(f, "{fault}"),
-            PriceTextFault::Making(fault) => write!(f, "{fault}"),
-        }
-    }
-}
-
 impl Price {
     // Reads yuan with at most four decimals.
     pub fn read(text: &str) -> Result<Price, PriceTextFault>
         ensures value { result ≡ price_read text.now }
         ensures back { (p : Checked) → text.now ≡ yuan_text p.value → result ≡ Ok p }
     {
-        let value = read_decimal(text, 4)?;
-        let price = Price::new(value)?;
-        Ok(price)
+        Ok(Price::new(read_decimal(text, 4)?)?)
     }
 }
 
@@ -60,7 +53,6 @@ impl fmt::Display for Price {
     ghost output = { λ p. Some (yuan_text p.value) };
 
     fn fmt<W: fmt::Write>(&self, f: &mut fmt::Formatter<W>) -> fmt::Result {
-        let yuan = Yuan(self.value);
-        write!(f, "{yuan}")
+        Yuan(self.value).fmt(f)
     }
 }

@@ -11,7 +11,7 @@ impl PriceRange {
     pub fn new(low: Price, high: Price) -> Result<PriceRange, MakingFault>
         ensures { seen ends result ≡ ranged low high }
     {
-        if low.value() > high.value() {
+        if low > high {
             return Err(MakingFault::Range);
         }
         Ok(PriceRange { low, high })
@@ -21,13 +21,14 @@ impl PriceRange {
     pub fn whole() -> PriceRange
         ensures { result ≡ whole }
     {
-        let low = Price {
-            value: Price::LEAST,
-        };
-        let high = Price {
-            value: Price::GREATEST,
-        };
-        PriceRange { low, high }
+        PriceRange {
+            low: Price {
+                value: Price::LEAST,
+            },
+            high: Price {
+                value: Price::GREATEST,
+            },
+        }
     }
 
     pub fn low(&self) -> Price
@@ -46,6 +47,6 @@ impl PriceRange {
     pub fn contains(&self, price: Price) -> bool
         ensures { result ≡ inside self.now price.value }
     {
-        self.low.value() <= price.value() && price.value() <= self.high.value()
+        (self.low..=self.high).contains(&price)
     }
 }

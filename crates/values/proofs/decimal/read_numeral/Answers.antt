@@ -1,8 +1,6 @@
-use Rattle.values.proofs.DecimalText.{read_ok, read_err}
+use Rattle.std.proofs.Common.{rules}
+use Rattle.values.proofs.DecimalText.{read_as}
 use Rattle.values.proofs.decimal.read_numeral.Goals as goal
 
-pub returns-in-Ok : goal.returns-in-Ok
-returns-in-Ok c = read_ok c.args.digits.now c.in-Ok.n c.requires c.in-Ok.ensures.value.0
-
-pub returns-in-Err : goal.returns-in-Err
-returns-in-Err c = read_err c.args.digits.now c.requires c.in-Err.ensures.value.0
+pub returns : goal.returns
+returns c = read_as c.args.digits.now c.parse.result c.map_err.result _ (λ e f k. search rules) c.requires c.parse.ensures.value.0 c.map_err.ensures.cases

@@ -1,14 +1,14 @@
-use Rattle.std.proofs.Common.{arith}
-use Rattle.values.proofs.DecimalText.{zeros_again, zeros_done, zeros_over}
+use Rattle.std.proofs.Common.{◌∙◌, refl, arith, rules}
+use Rattle.std.proofs.lemmas.Iterator.{YieldsList-from_range}
+use Rattle.std.proofs.lemmas.List.FromFn.{length-range_with_len}
+use Rattle.values.proofs.DecimalText.{zeros_turned, turns_counted, zeros_put}
 use Rattle.values.proofs.decimal.with_zeros.Goals as goal
 
-pub loop-preserved : goal.loop-preserved
-loop-preserved c =
-    let more = c.in-Some.ensures in
-    (zeros_again c.loop.n _ c.args.zeros c.loop.counter _ c.loop-test.true more.1 c.loop.invariant.0, omega arith)
-
-pub returns-in_default : goal.returns-in_default
-returns-in_default c = zeros_over c.loop.n c.args.zeros c.loop.counter _ c.loop-test.true c.in_default.ensures c.loop.invariant.0
-
 pub returns : goal.returns
-returns c = zeros_done c.loop.n c.args.zeros c.loop.counter _ c.loop-test.false c.loop.invariant.1 c.loop.invariant.0
+returns c =
+    let ran = c.try_fold.ensures.ran in
+    let xs = ran.0 in
+    let z = c.args.zeros in
+    let put = zeros_turned _ (λ p x q k. search rules) xs _ _ ran.5 c.ranges.start.fits in
+    let count = turns_counted _ _ _ _ z xs _ ran.1 (YieldsList-from_range 0 z z refl (omega arith)) (length-range_with_len 0 z) ran.4.1 ran.4.2 in
+    c.ok_or.ensures.value ∙ zeros_put c.args.start z _ ran.3 ran.1 _ put count (search rules)
