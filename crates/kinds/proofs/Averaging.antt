@@ -1,5 +1,5 @@
 -- The average of some closes and a price is a price.
-use Rattle.std.proofs.Common.{◌≡◌, ℕ, ◌+◌, ◌-◌, ◌*◌, ◌/◌, ◌<◌, ◌≤◌, Bool, true, false, cond, not, ◌&&◌, ◌||◌, T, eqb, leb, is_some, Some, None, Option, Result, sym, refl, ap, ◌∙◌, le-div_iff_mul-le, arith, ne_eqb, eqb-true, leb-true}
+use Rattle.std.proofs.Common.{◌≡◌, ℕ, ◌+◌, ◌-◌, ◌*◌, ◌/◌, ◌<◌, ◌≤◌, Bool, true, false, cond, not, ◌&&◌, ◌||◌, T, eqb, leb, Some, None, Option, Result, sym, refl, ap, ◌∙◌, le-div_iff_mul-le, arith, ne_eqb, eqb-true, leb-true}
 use native.Mathlib.Nat.{div-le_of_le-mul}
 use Rattle.std.specs.Option.{ok_or}
 use Rattle.std.specs.Result.{result_ok}
@@ -12,7 +12,7 @@ use Rattle.values.specs.declared.days.AveragingDays.TheVariants as days
 use Rattle.values.specs.declared.fault.MakingFault.{MakingFault}
 use Rattle.values.specs.declared.fault.MakingFault.TheVariants as making
 use Rattle.values.specs.declared.price.Price.{Price}
-use Rattle.values.proofs.Pricing.{priced_price, made_priced}
+use Rattle.values.proofs.Pricing.{made_priced}
 use Rattle.conditions.specs.Closes.{sum_before}
 use Rattle.conditions.specs.Sums.{sums}
 use Rattle.kinds.specs.Tests.{at_average, average_yes}
@@ -49,10 +49,6 @@ module _ (d : AveragingDays) (s : ℕ) (price : Price) (fits : T (sums (day_coun
         high = div-le_of_le-mul n (omega (arith, ends.1, price.high));
       }
 
-  pub mean_some : is_some (priced mean) ≡ true
-  unfolding mean_price
-  mean_some = ap is_some (priced_price mean_price)
-
   made_part : (o : Option Price) → result_ok (ok_or o making.Price) ≡ o
   made_part None = refl
   made_part (Some p) = refl
@@ -63,9 +59,9 @@ module _ (d : AveragingDays) (s : ℕ) (price : Price) (fits : T (sums (day_coun
 module _ (order : ℕ → ℕ → Bool) (d : AveragingDays) (day : Day) (price : Price) (r : Option Price) where
   -- where the answer is yes
   pub yes_average : true ≡ order (sum_before d day.sums) ((day_count d - 1) * price.value) → (sum_before d day.sums ≡ 0 → ⊥)
-      → r ≡ priced ((sum_before d day.sums + price.value) / day_count d) → is_some r ≡ true → (r ≡ average_yes order d day price) × (is_some r ≡ at_average order d day price)
-  yes_average hit some is found =
+      → r ≡ priced ((sum_before d day.sums + price.value) / day_count d) → r ≡ average_yes order d day price
+  yes_average hit some is =
       let yes : at_average order d day price ≡ true =
       ap (λ b. not b && order (sum_before d day.sums) ((day_count d - 1) * price.value)) (ne_eqb (sum_before d day.sums) 0 some) ∙ sym hit
       in
-      (is ∙ ap (λ b. cond b (priced ((sum_before d day.sums + price.value) / day_count d)) None) (sym yes), found ∙ sym yes)
+      is ∙ ap (λ b. cond b (priced ((sum_before d day.sums + price.value) / day_count d)) None) (sym yes)

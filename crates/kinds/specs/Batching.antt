@@ -1,12 +1,12 @@
 -- The batch answers its meaning, keeps the repeat law, and is answered from the latest fire.
 use Rattle.std.specs.Prelude.{◌≡◌, ℕ, Bool, false, List, [], ◌∷◌, ◌++◌, Some, None, Option, refl}
-use Rattle.std.proofs.Common.{ap, ◌∙◌, sym}
+use Rattle.std.proofs.Common.{ap}
 use Rattle.values.specs.Directions.{Beyond}
 use Rattle.values.specs.Prices.{reached_target}
 use Rattle.values.specs.declared.price.Price.{Price}
 use Rattle.values.specs.declared.step.Step.{Step}
 use Rattle.values.proofs.Pricing.{reached_itself}
-use Rattle.conditions.specs.Meaning.{Meaning, after, ends, fires, Repeats, Proper}
+use Rattle.conditions.specs.Meaning.{Meaning, ends, fires, Repeats, Proper}
 use Rattle.conditions.specs.declared.event.Tick.{Tick}
 use Rattle.conditions.specs.declared.event.Event.{Event}
 use Rattle.conditions.specs.declared.event.Event.TheVariants as event
@@ -25,14 +25,6 @@ module _ (order : ℕ → ℕ → Bool) (target : Step → ℕ → ℕ) (side : 
 
   abbrev reach : Price → Price → Option Price
   reach = reached_target order target step
-
-  -- one tick as the code takes it
-  pub turn : (base : Price) (v : Price) (e : Event) (t : Tick) (o : Option Price) → e ≡ event.Tick t → o ≡ reach base t.price → v ≡ base_by order target side step o base t.price
-      → (fires_on side o ≡ M base [] e) × (M v ≡ after (M base) (e ∷ []))
-  turn base v e t o ee eo ev = (
-    ap (fires_on side) eo ∙ ap (M base []) (sym ee),
-    ap M (ev ∙ ap (λ p. base_by order target side step p base t.price) eo) ∙ ap (λ x. after (M base) (x ∷ [])) (sym ee),
-  )
 
   -- the law of the latest fire
   after_more : (h : List Event) (e : Event) (b : Price) → base_after order target side step b (h ++ e ∷ []) ≡ told (base_after order target side step b h) e

@@ -1,10 +1,10 @@
 -- The grid answers its meaning and keeps the repeat law.
-use Rattle.std.specs.Prelude.{◌≡◌, false, [], ◌∷◌, Some, None, Option, refl}
-use Rattle.std.proofs.Common.{ap, ◌∙◌, sym}
+use Rattle.std.specs.Prelude.{◌≡◌, false, Some, None, Option, refl}
+use Rattle.std.proofs.Common.{ap, ◌∙◌}
 use Rattle.values.specs.Directions.{Beyond, rising_order, rising_target, falling_order, falling_target}
 use Rattle.values.specs.declared.price.Price.{Price}
 use Rattle.values.proofs.Pricing.{reached_itself}
-use Rattle.conditions.specs.Meaning.{Meaning, after, fires, Repeats, Proper}
+use Rattle.conditions.specs.Meaning.{Meaning, fires, Repeats, Proper}
 use Rattle.kinds.specs.Grids.{allowed, sell_target, chosen, fire, moved, stage_by, stage_next, stage_after, answer_by, answer_at, grid_means}
 use Rattle.conditions.specs.declared.event.Tick.{Tick}
 use Rattle.conditions.specs.declared.event.Event.{Event}
@@ -21,15 +21,6 @@ use Rattle.conditions.proofs.States.{Rests, lawful}
 allowed_none : (m : GridMode) → allowed m None ≡ None
 allowed_none (mode.Market r) = refl
 allowed_none mode.Fill = refl
-
--- one tick while watching, as the code takes it
-pub turn : (terms : GridTerms) (s v : GridStage) (e : Event) (base : Price) (t : Tick) (o : Option Fire)
-    → s ≡ stage.Watching base → e ≡ event.Tick t → o ≡ fire terms base t.price → v ≡ stage_by terms base t.price o
-    → (answer_by terms o ≡ grid_means terms s [] e) × (grid_means terms v ≡ after (grid_means terms s) (e ∷ []))
-turn terms s v e base t o es ee eo ev = (
-  ap (answer_by terms) eo ∙ ap (λ u. answer_at terms u (event.Tick t)) (sym es) ∙ ap (answer_at terms s) (sym ee),
-  ap (grid_means terms) (ev ∙ ap (stage_by terms base t.price) eo ∙ ap (λ u. stage_next terms u (event.Tick t)) (sym es) ∙ ap (stage_next terms s) (sym ee)),
-)
 
 module _ (terms : GridTerms)
     (down : (p : Price) → Beyond falling_order p.value (falling_target terms.down p.value))
@@ -58,7 +49,7 @@ module _ (terms : GridTerms)
   rests_awaiting : (t : Tick) → Rests M told stage.Awaiting t
   rests_awaiting t = record { waits = refl; stays = refl }
 
-  rests_moved : (m : GridMode) (t : Tick) → Rests M told (moved terms m t.price) t
+  rests_moved : (m : GridMode) (t : Tick) → Rests M told (moved m t.price) t
   rests_moved (mode.Market r) t = rests_new t
   rests_moved mode.Fill t = rests_awaiting t
 

@@ -1,8 +1,9 @@
 -- Held answers its meaning and keeps the repeat law.
 use Rattle.std.specs.Prelude.{◌≡◌, ℕ, ◌+◌, ◌≤◌, Bool, true, false, cond, ◌&&◌, ◌||◌, List, [], ◌∷◌, ◌++◌, is_some, Some, None, Option, nat_le, nat_lt, refl}
 use Rattle.std.proofs.Common.{ap, ◌∙◌, sym, arith}
+use Rattle.std.proofs.Math.Bool.{and-true, or-false}
 use Rattle.std.proofs.Math.Path.{fun_ext}
-use borrow.Author.Tests.{clash, leb-true, leb-false, ltb-true, ltb-false, lt-leb, le-ltb}
+use borrow.Author.Tests.{leb-true, leb-false, ltb-true, ltb-false, lt-leb, le-ltb}
 use Rattle.values.specs.declared.price.Price.{Price}
 use Rattle.conditions.specs.Meaning.{Meaning, after, ends, fires_over, Repeats, Proper}
 use Rattle.kinds.specs.Holds.{today, all_yes, some_start, start_before, held_at, held_in, held_means, earliest, since_next, long_enough}
@@ -11,7 +12,6 @@ use Rattle.conditions.specs.declared.event.Tick.{Tick}
 use Rattle.conditions.specs.declared.event.Event.{Event}
 use Rattle.conditions.specs.declared.event.Event.TheVariants as event
 use Rattle.conditions.specs.declared.event.Side.{Side}
-use Rattle.conditions.specs.declared.event.Answer.TheVariants as answer
 use Rattle.conditions.proofs.States.{Rests, lawful}
 
 -- the earlier of two moments lies long enough before a third where one of them does
@@ -99,39 +99,13 @@ module _ (test : Day → Price → Option Price) (hold : ℕ) (side : Side) wher
   pub steps : (s : S) (e : Event) → M (told s e) ≡ after (M s) (e ∷ [])
   steps s e = fun_ext (λ es. fun_ext (steps_at s e es))
 
-  or_false : (b : Bool) → b || false ≡ b
-  or_false true = refl
-  or_false false = refl
-
-  and_true : (b : Bool) → b && true ≡ b
-  and_true true = refl
-  and_true false = refl
-
   start_now : (d : Day) (since : Option ℕ) (m : ℕ) → start_before test hold d since [] m || false ≡ long_enough hold since m
   start_now d None m = refl
-  start_now d (Some s) m = or_false (nat_le (s + hold) m && true) ∙ and_true (nat_le (s + hold) m)
+  start_now d (Some s) m = or-false (nat_le (s + hold) m && true) ∙ and-true (nat_le (s + hold) m)
 
   -- the answer to a tick on a day
   now_held : (d : Day) (since : Option ℕ) (t : Tick) → M (Some d, since) [] (event.Tick t) ≡ fires_over side (cond (long_enough hold since t.moment) (test d t.price) None)
   now_held d since t = ap (λ b. fires_over side (cond b (test d t.price) None)) (start_now d since t.moment)
-
-  fires_cond : (b : Bool) (o : Option Price) → fires_over side (cond b o None) ≡ cond b (fires_over side o) answer.Wait
-  fires_cond true o = refl
-  fires_cond false o = refl
-
-  -- one tick as the code takes it
-  pub turn : (day : Option Day) (since : Option ℕ) (e : Event) (d : Day) (t : Tick) (o : Option Price) (n : Option ℕ) (b : Bool)
-      → day ≡ Some d → e ≡ event.Tick t → o ≡ test d t.price → b ≡ long_enough hold since t.moment → n ≡ since_next since t.moment (is_some o)
-      → (cond b (fires_over side o) answer.Wait ≡ M (day, since) [] e) × (M (day, n) ≡ after (M (day, since)) (e ∷ []))
-  turn day since e d t o n b ed ee eo eb en = (
-    (λ i. cond (eb i) (fires_over side (eo i)) answer.Wait) ∙ sym (fires_cond (long_enough hold since t.moment) (test d t.price)) ∙ sym (now_held d since t) ∙ (λ i. M (sym ed i, since) [] (sym ee i)),
-    (λ i. M (ed i, (en ∙ ap (λ p. since_next since t.moment (is_some p)) eo) i)) ∙ steps (Some d, since) (event.Tick t) ∙ (λ i. after (M (sym ed i, since)) (sym ee i ∷ [])),
-  )
-
-  -- a tick before any day
-  pub turn_early : (day : Option Day) (since : Option ℕ) (e : Event) (t : Tick) → day ≡ None → e ≡ event.Tick t → (answer.Wait ≡ M (day, since) [] e) × (M (day, since) ≡ after (M (day, since)) (e ∷ []))
-  turn_early day since e t ed ee =
-      ((λ i. M (sym ed i, since) [] (sym ee i)), (λ i. M (ed i, since)) ∙ steps (None, since) (event.Tick t) ∙ (λ i. after (M (sym ed i, since)) (sym ee i ∷ [])))
 
   module _ (positive : 1 ≤ hold) where
     not_itself : (m : ℕ) → nat_le (m + hold) m ≡ false
@@ -151,7 +125,7 @@ module _ (test : Day → Price → Option Price) (hold : ℕ) (side : Side) wher
         go false e = ap (λ b. cond b m m) (le-ltb m m (omega arith))
 
     not_over : (b : Bool) (p : Price) → ends (fires_over side (cond b (Some p) None)) ≡ false → b ≡ false
-    not_over true p e = absurd (clash (sym e))
+    not_over true p e = cc
     not_over false p e = refl
 
     rests_yes : (d : Day) (since : Option ℕ) (t : Tick) (o : Option Price) → test d t.price ≡ o → ends (fires_over side (cond (long_enough hold since t.moment) o None)) ≡ false

@@ -1,8 +1,8 @@
 -- The trail answers its meaning and keeps the repeat law.
 use Rattle.std.specs.Prelude.{◌≡◌, ℕ, Bool, true, false, cond, not, ◌&&◌, ◌||◌, List, [], ◌∷◌, ◌++◌, Some, None, Option, refl}
 use Rattle.std.proofs.Common.{ap, ◌∙◌, sym}
+use Rattle.std.proofs.Math.Bool.{or-false}
 use Rattle.std.proofs.Math.Path.{fun_ext}
-use borrow.Author.Tests.{clash}
 use Rattle.std.specs.Option.{option_or}
 use Rattle.values.specs.Directions.{TotalOrder, Beyond}
 use Rattle.values.specs.Prices.{reached_target}
@@ -42,11 +42,11 @@ module _ (order : ℕ → ℕ → Bool) (target : Step → ℕ → ℕ) (total :
   below_least : (b bm bp : Bool) (x p : Price) (r : Bool) → order p.value x.value ≡ b → order m x.value ≡ bm → order m p.value ≡ bp
       → not (order m (cond b p x).value) || r ≡ not (order m x.value) || (not (order m p.value) || r)
   below_least true true bp x p r eb em ep = ap (λ c. not c || (not (order m p.value) || r)) (sym em)
-  below_least true false true x p r eb em ep = absurd (clash (sym em ∙ total.through m p.value x.value ep eb))
+  below_least true false true x p r eb em ep = let c = total.through m p.value x.value ep eb in cc
   below_least true false false x p r eb em ep = ap (λ c. not c || r) ep ∙ ap (λ c. not c || (not (order m p.value) || r)) (sym em)
   below_least false false bp x p r eb em ep = ap (λ c. not c || r) em ∙ ap (λ c. not c || (not (order m p.value) || r)) (sym em)
   below_least false true true x p r eb em ep = ap (λ c. not c || r) em ∙ ap (λ c. not c || r) (sym ep) ∙ ap (λ c. not c || (not (order m p.value) || r)) (sym em)
-  below_least false true false x p r eb em ep = absurd (clash (sym ep ∙ total.through m x.value p.value em (total.either p.value x.value eb)))
+  below_least false true false x p r eb em ep = let c = total.through m x.value p.value em (total.either p.value x.value eb) in cc
 
   -- the answer by whether an earlier price lay below the mark, by the least price, and by the price itself
   abbrev judged : Bool → Price → Price → Answer
@@ -77,23 +77,10 @@ module _ (order : ℕ → ℕ → Bool) (target : Step → ℕ → ℕ) (total :
   pub steps : (s : TrailState) (e : Event) → M (told s e) ≡ after (M s) (e ∷ [])
   steps s e = fun_ext (λ es. fun_ext (λ x. steps_at s e es x))
 
-  or_false : (b : Bool) → b || false ≡ b
-  or_false true = refl
-  or_false false = refl
-
   -- what the code answers while tracking
   pub answers : (x : Price) (t : Tick)
       → fires_over terms.side (option_or (by_target order target terms (nearer x t.price) t.price) (by_floor order terms x t.price)) ≡ M (state.Tracking x) [] (event.Tick t)
-  answers x t = ap (λ b. judged b (nearer x t.price) t.price) (sym (or_false (not (order m x.value))))
-
-  -- one tick while tracking, as the code takes it
-  pub turn : (s : TrailState) (e : Event) (x low : Price) (t : Tick) (a : Answer) → s ≡ state.Tracking x → e ≡ event.Tick t → low ≡ nearer x t.price
-      → a ≡ fires_over terms.side (option_or (by_target order target terms low t.price) (by_floor order terms x t.price))
-      → (a ≡ M s [] e) × (M (state.Tracking low) ≡ after (M s) (e ∷ []))
-  turn s e x low t a es ee el ea = (
-    ea ∙ ap (λ l. fires_over terms.side (option_or (by_target order target terms l t.price) (by_floor order terms x t.price))) el ∙ answers x t ∙ ap (λ v. M v [] (event.Tick t)) (sym es) ∙ ap (M s []) (sym ee),
-    ap (λ l. M (state.Tracking l)) el ∙ steps (state.Tracking x) (event.Tick t) ∙ ap (λ v. after (M v) (event.Tick t ∷ [])) (sym es) ∙ ap (λ v. after (M s) (v ∷ [])) (sym ee),
-  )
+  answers x t = ap (λ b. judged b (nearer x t.price) t.price) (sym (or-false (not (order m x.value))))
 
   module _ (beyond : (p : Price) → Beyond order p.value (target terms.step p.value)) where
     same_price : (b : Bool) (p : Price) → cond b p p ≡ p

@@ -44,7 +44,7 @@ impl<D> Average<D> {
 }
 
 impl<D: Direction> Test for Average<D> {
-    ghost trigger = { λ a d p. average_yes D.Direction.order a.days d p };
+    ghost trigger = { λ a. average_yes D.Direction.order a.days };
 
     // A yes always has its trigger price.
     fn judge(&self, day: &Day, price: Price) -> Option<Price>

@@ -23,13 +23,9 @@ impl<D> Level<D> {
 }
 
 impl<D: Direction> Test for Level<D> {
-    ghost trigger = { λ l _ p. level_yes D.Direction.order l.price p };
+    ghost trigger = { λ l. level_yes D.Direction.order l.price };
 
     fn judge(&self, _day: &Day, price: Price) -> Option<Price> {
-        if D::passes(price, self.price) {
-            Some(self.price)
-        } else {
-            None
-        }
+        D::passes(price, self.price).then_some(self.price)
     }
 }

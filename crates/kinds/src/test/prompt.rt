@@ -18,7 +18,7 @@ pub struct Prompt<T> {
 
 impl<T: Test> Prompt<T> {
     pub fn new(test: T, side: Side) -> Prompt<T>
-        ensures { prompt_means (T.Test.trigger result.test) result.side result.day ≡ prompt_means (T.Test.trigger test) side None }
+        ensures { ⟦<Prompt<T> as Condition>⟧.meaning result ≡ prompt_means (T.Test.trigger test) side None }
     {
         Prompt {
             test,
