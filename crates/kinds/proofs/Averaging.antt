@@ -1,6 +1,7 @@
 -- The average of some closes and a price is a price.
-use Rattle.std.proofs.Common.{◌≡◌, ℕ, ◌+◌, ◌-◌, ◌*◌, ◌/◌, ◌<◌, ◌≤◌, Bool, true, false, cond, not, ◌&&◌, ◌||◌, T, eqb, leb, Some, None, Option, Result, sym, refl, ap, ◌∙◌, le-div_iff_mul-le, arith, ne_eqb, eqb-true, leb-true}
+use Rattle.std.proofs.Common.{◌≡◌, ℕ, ◌+◌, ◌-◌, ◌*◌, ◌/◌, ◌<◌, ◌≤◌, Bool, true, cond, not, ◌&&◌, T, Some, None, Option, Result, sym, refl, ap, ◌∙◌, le-div_iff_mul-le, arith, ne_eqb, rules}
 use native.Mathlib.Nat.{div-le_of_le-mul}
+use Rattle.std.proofs.lemmas.Bool.Decides.{nat_tests}
 use Rattle.std.specs.Option.{ok_or}
 use Rattle.std.specs.Result.{result_ok}
 use Rattle.values.specs.Bounds.{least_price, greatest_price}
@@ -8,7 +9,6 @@ use Rattle.values.specs.Days.{day_count}
 use Rattle.values.specs.Making.{seen, checked}
 use Rattle.values.specs.Prices.{priced}
 use Rattle.values.specs.declared.days.AveragingDays.{AveragingDays}
-use Rattle.values.specs.declared.days.AveragingDays.TheVariants as days
 use Rattle.values.specs.declared.fault.MakingFault.{MakingFault}
 use Rattle.values.specs.declared.fault.MakingFault.TheVariants as making
 use Rattle.values.specs.declared.price.Price.{Price}
@@ -19,18 +19,11 @@ use Rattle.kinds.specs.Tests.{at_average, average_yes}
 use Rattle.conditions.specs.declared.event.Day.{Day}
 
 -- a sum that is not 0 is one of m prices
-sum_ends : (m s : ℕ) → (s ≡ 0 → ⊥) → (a b c : Bool) → eqb s 0 ≡ a → leb (m * least_price) s ≡ b → leb s (m * greatest_price) ≡ c → T (a || (b && c)) → (m * least_price ≤ s) × (s ≤ m * greatest_price)
-sum_ends m s some true b c ea eb ec t = absurd (some (eqb-true s 0 ea))
-sum_ends m s some false true true ea eb ec t = (leb-true _ _ eb, leb-true _ _ ec)
-sum_ends m s some false true false ea eb ec t = absurd t
-sum_ends m s some false false c ea eb ec t = absurd t
+sum_ends : (m s : ℕ) → (s ≡ 0 → ⊥) → T (sums m s) → (m * least_price ≤ s) × (s ≤ m * greatest_price)
+sum_ends m s some t = grind (arith, nat_tests)
 
 several : (d : AveragingDays) → 1 < day_count d
-several days.Five = omega arith
-several days.Ten = omega arith
-several days.Twenty = omega arith
-several days.Thirty = omega arith
-several days.Sixty = omega arith
+several d = search rules
 
 module _ (d : AveragingDays) (s : ℕ) (price : Price) (fits : T (sums (day_count d - 1) s)) (some : s ≡ 0 → ⊥) where
   abbrev n : ℕ
@@ -41,7 +34,7 @@ module _ (d : AveragingDays) (s : ℕ) (price : Price) (fits : T (sums (day_coun
 
   mean_price : Price
   mean_price =
-      let ends = sum_ends (n - 1) s some (eqb s 0) (leb ((n - 1) * least_price) s) (leb s ((n - 1) * greatest_price)) refl refl refl fits in
+      let ends = sum_ends (n - 1) s some fits in
       let more = several d in
       record {
         value = mean;

@@ -1,8 +1,9 @@
 -- The trail answers its meaning and keeps the repeat law.
 use Rattle.std.specs.Prelude.{◌≡◌, ℕ, Bool, true, false, cond, not, ◌&&◌, ◌||◌, List, [], ◌∷◌, ◌++◌, Some, None, Option, refl}
-use Rattle.std.proofs.Common.{ap, ◌∙◌, sym}
+use Rattle.std.proofs.Common.{ap, ◌∙◌, sym, arith}
 use Rattle.std.proofs.Math.Bool.{or-false}
 use Rattle.std.proofs.Math.Path.{fun_ext}
+use Rattle.std.proofs.lemmas.Grind.{common_steps}
 use Rattle.std.specs.Option.{option_or}
 use Rattle.values.specs.Directions.{TotalOrder, Beyond}
 use Rattle.values.specs.Prices.{reached_target}
@@ -39,14 +40,12 @@ module _ (order : ℕ → ℕ → Bool) (target : Step → ℕ → ℕ) (total :
   told s (event.Settlement p) = s
 
   -- the least of two prices lies strictly below the mark where one of them does
-  below_least : (b bm bp : Bool) (x p : Price) (r : Bool) → order p.value x.value ≡ b → order m x.value ≡ bm → order m p.value ≡ bp
-      → not (order m (cond b p x).value) || r ≡ not (order m x.value) || (not (order m p.value) || r)
-  below_least true true bp x p r eb em ep = ap (λ c. not c || (not (order m p.value) || r)) (sym em)
-  below_least true false true x p r eb em ep = let c = total.through m p.value x.value ep eb in cc
-  below_least true false false x p r eb em ep = ap (λ c. not c || r) ep ∙ ap (λ c. not c || (not (order m p.value) || r)) (sym em)
-  below_least false false bp x p r eb em ep = ap (λ c. not c || r) em ∙ ap (λ c. not c || (not (order m p.value) || r)) (sym em)
-  below_least false true true x p r eb em ep = ap (λ c. not c || r) em ∙ ap (λ c. not c || r) (sym ep) ∙ ap (λ c. not c || (not (order m p.value) || r)) (sym em)
-  below_least false true false x p r eb em ep = let c = total.through m x.value p.value em (total.either p.value x.value eb) in cc
+  below_least : (x p : Price) (r : Bool) → not (order m (nearer x p).value) || r ≡ not (order m x.value) || (not (order m p.value) || r)
+  below_least x p r =
+      let past_p = total.through m p.value x.value in
+      let past_x = total.through m x.value p.value in
+      let one = total.either p.value x.value in
+      grind (arith, common_steps)
 
   -- the answer by whether an earlier price lay below the mark, by the least price, and by the price itself
   abbrev judged : Bool → Price → Price → Answer
@@ -55,13 +54,12 @@ module _ (order : ℕ → ℕ → Bool) (target : Step → ℕ → ℕ) (total :
   idle_step : (b : Bool) (p : Price) (l k : List Price) (u : Price)
       → trigger order target terms (watched order target terms (cond b (state.Tracking p) state.Idle) l) (watched order target terms (cond b (state.Tracking p) state.Idle) k) u
       ≡ trigger order target terms (cond b (p ∷ l) (watch order terms.mark l)) (cond b (p ∷ k) (watch order terms.mark k)) u
-  idle_step true p l k u = refl
-  idle_step false p l k u = refl
+  idle_step b p l k u = grind (arith, common_steps)
 
   track_step : (x p : Price) (l k : List Price) (u : Price)
       → judged (some_below order terms.mark (nearer x p ∷ l)) (least order (nearer x p) k) u ≡ judged (some_below order terms.mark (x ∷ p ∷ l)) (least order x (p ∷ k)) u
   track_step x p l k u =
-      ap (λ b. judged b (least order (nearer x p) k) u) (below_least (order p.value x.value) (order m x.value) (order m p.value) x p (some_below order terms.mark l) refl refl refl)
+      ap (λ b. judged b (least order (nearer x p) k) u) (below_least x p (some_below order terms.mark l))
 
   steps_at : (s : TrailState) (e : Event) (es : List Event) (x : Event) → M (told s e) es x ≡ M s (e ∷ es) x
   steps_at state.Idle (event.Tick t) es (event.Tick u) =
@@ -84,18 +82,14 @@ module _ (order : ℕ → ℕ → Bool) (target : Step → ℕ → ℕ) (total :
 
   module _ (beyond : (p : Price) → Beyond order p.value (target terms.step p.value)) where
     same_price : (b : Bool) (p : Price) → cond b p p ≡ p
-    same_price true p = refl
-    same_price false p = refl
+    same_price b p = grind (arith, common_steps)
 
     -- a price fires nothing where it is the least one itself
     target_waits : (b : Bool) (o : Option Price) → o ≡ None → cond b None o ≡ None
-    target_waits true o e = refl
-    target_waits false o e = e
+    target_waits b o e = grind (arith, common_steps)
 
     floor_waits : (f d : Bool) → cond {A = Option Price} (f && ((not d || false) && d)) (Some terms.mark) None ≡ None
-    floor_waits true true = refl
-    floor_waits true false = refl
-    floor_waits false d = refl
+    floor_waits f d = grind (arith, common_steps)
 
     rests_new : (t : Tick) → Rests M told (state.Tracking t.price) t
     rests_new t =
