@@ -9,7 +9,7 @@ use Rattle.conditions.specs.declared.event.Event.{Event}
 use Rattle.conditions.specs.declared.event.Event.TheVariants as event
 use Rattle.conditions.specs.declared.event.Fire.{Fire}
 use Rattle.kinds.specs.Bases.{Unsettled, LatestFire, none, FromLatestFire, LatestFill, unfired, awaited, filled, unless_awaited, FromLatestFill}
-use Rattle.kinds.specs.Grids.{fire, stage_by, stage_next, stage_after, answer_by, answer_at, grid_answer, grid_means, market_terms, fill_terms}
+use Rattle.kinds.specs.Grids.{fire, stage_by, stage_next, stage_after, answer_at, grid_answer, grid_means, market_terms, fill_terms}
 use Rattle.kinds.specs.declared.grid.GridTerms.{GridTerms}
 use Rattle.kinds.specs.declared.grid.GridStage.{GridStage}
 use Rattle.kinds.specs.declared.grid.GridStage.TheVariants as stage

@@ -1,11 +1,10 @@
 -- The grid answers its meaning and keeps the repeat law.
 use Rattle.std.specs.Prelude.{◌≡◌, false, Some, None, Option, refl}
-use Rattle.std.proofs.Common.{ap, ◌∙◌}
 use Rattle.values.specs.Directions.{Beyond, rising_order, rising_target, falling_order, falling_target}
 use Rattle.values.specs.declared.price.Price.{Price}
 use Rattle.values.proofs.Pricing.{reached_itself}
 use Rattle.conditions.specs.Meaning.{Meaning, fires, Repeats, Proper}
-use Rattle.kinds.specs.Grids.{allowed, sell_target, chosen, fire, moved, stage_by, stage_next, stage_after, answer_by, answer_at, grid_means}
+use Rattle.kinds.specs.Grids.{allowed, fire, moved, stage_by, stage_next, stage_after, answer_at, grid_means}
 use Rattle.conditions.specs.declared.event.Tick.{Tick}
 use Rattle.conditions.specs.declared.event.Event.{Event}
 use Rattle.conditions.specs.declared.event.Event.TheVariants as event
@@ -34,14 +33,11 @@ module _ (terms : GridTerms)
   -- a price fires nothing from itself as the base
   fire_itself : (p : Price) → fire terms p p ≡ None
   fire_itself p =
-      ap (λ o. chosen terms (allowed terms.mode o) (sell_target terms p p)) (reached_itself falling_order falling_target terms.down p (down p))
-      ∙ ap (λ o. chosen terms o (sell_target terms p p)) (allowed_none terms.mode)
-      ∙ ap (λ o. chosen terms None (allowed terms.mode o)) (reached_itself rising_order rising_target terms.up p (up p))
-      ∙ ap (chosen terms None) (allowed_none terms.mode)
+      simp (reached_itself falling_order falling_target terms.down p (down p), reached_itself rising_order rising_target terms.up p (up p), allowed_none)
 
   -- a base from which the tick fires nothing
   rests_at : (base : Price) (t : Tick) → fire terms base t.price ≡ None → Rests M told (stage.Watching base) t
-  rests_at base t e = record { waits = ap (answer_by terms) e; stays = ap (stage_by terms base t.price) e }
+  rests_at base t e = record { waits = simp e; stays = simp e }
 
   rests_new : (t : Tick) → Rests M told (stage.Watching t.price) t
   rests_new t = rests_at t.price t (fire_itself t.price)

@@ -91,13 +91,13 @@ module _ (test : Day → Price → Option Price) (hold : ℕ) (side : Side) wher
     rests_yes d since t None e n =
         record {
           waits = refl;
-          stays = ap (λ p. (Some d, since_next None t.moment (is_some p))) e;
+          stays = simp e;
         }
     rests_yes d since t (Some p) e n =
         let low = short since t.moment (not_over (long_enough hold since t.moment) p n) in
         record {
-          waits = now_held d (Some (earliest since t.moment)) t ∙ ap (λ b. fires_over side (cond b (test d t.price) None)) low;
-          stays = ap (λ q. (Some d, since_next (Some (earliest since t.moment)) t.moment (is_some q))) e ∙ ap (λ k. (Some d, Some k)) (again since t.moment);
+          waits = now_held d (Some (earliest since t.moment)) t ∙ simp low;
+          stays = simp (e, again since t.moment);
         }
 
     rests_at : (d : Option Day) (since : Option ℕ) (t : Tick) → ends (M (d, since) [] (event.Tick t)) ≡ false → Rests M told (d, since_told d since t) t

@@ -104,8 +104,8 @@ module _ (order : ℕ → ℕ → Bool) (target : Step → ℕ → ℕ) (total :
     rests_idle : (t : Tick) → order t.price.value m ≡ false → Rests M told state.Idle t
     rests_idle t e =
         record {
-          waits = ap (λ b. fires_over terms.side (trigger order target terms [] (cond b (t.price ∷ []) []) t.price)) e;
-          stays = ap (λ b. cond b (state.Tracking t.price) state.Idle) e;
+          waits = simp e;
+          stays = simp e;
         }
 
     from_idle : (b : Bool) (t : Tick) → b ≡ order t.price.value m → Rests M told (cond b (state.Tracking t.price) state.Idle) t
@@ -117,7 +117,7 @@ module _ (order : ℕ → ℕ → Bool) (target : Step → ℕ → ℕ) (total :
     from_track false x t e n =
         record {
           waits = not_over terms.side (trigger order target terms (x ∷ []) (x ∷ t.price ∷ []) t.price) n;
-          stays = ap (λ b. state.Tracking (cond b t.price x)) (sym e);
+          stays = simp (sym e);
         }
 
     rests : (s : TrailState) (t : Tick) → ends (M s [] (event.Tick t)) ≡ false → Rests M told (told s (event.Tick t)) t
