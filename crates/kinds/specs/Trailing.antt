@@ -1,17 +1,16 @@
 -- The trail answers its meaning and keeps the repeat law.
 use Rattle.std.specs.Prelude.{◌≡◌, ℕ, Bool, true, false, cond, not, ◌&&◌, ◌||◌, List, [], ◌∷◌, ◌++◌, Some, None, Option, refl}
-use Rattle.std.proofs.Common.{ap, ◌∙◌, sym, arith}
+use Rattle.std.proofs.Common.{ap, sym, arith}
 use Rattle.std.proofs.Math.Bool.{or-false}
 use Rattle.std.proofs.Math.Path.{fun_ext}
 use Rattle.std.proofs.lemmas.Grind.{common_steps}
 use Rattle.std.specs.Option.{option_or}
 use Rattle.values.specs.Directions.{TotalOrder, Beyond}
-use Rattle.values.specs.Prices.{reached_target}
 use Rattle.values.specs.declared.price.Price.{Price}
 use Rattle.values.specs.declared.step.Step.{Step}
 use Rattle.values.proofs.Pricing.{reached_itself}
 use Rattle.conditions.specs.Meaning.{Meaning, after, ends, fires_over, Repeats, Proper}
-use Rattle.kinds.specs.Trails.{prices, watch, least, some_below, by_target, at_floor, trigger, watched, trail_means, begun, by_floor}
+use Rattle.kinds.specs.Trails.{prices, watch, least, some_below, by_target, trigger, watched, trail_means, begun, by_floor}
 use Rattle.conditions.specs.declared.event.Tick.{Tick}
 use Rattle.conditions.specs.declared.event.Event.{Event}
 use Rattle.conditions.specs.declared.event.Event.TheVariants as event
@@ -85,8 +84,8 @@ module _ (order : ℕ → ℕ → Bool) (target : Step → ℕ → ℕ) (total :
     same_price b p = grind (arith, common_steps)
 
     -- a price fires nothing where it is the least one itself
-    target_waits : (b : Bool) (o : Option Price) → o ≡ None → cond b None o ≡ None
-    target_waits b o e = grind (arith, common_steps)
+    waits_at : (b : Bool) → cond {A = Option Price} b None None ≡ None
+    waits_at b = grind (arith, common_steps)
 
     floor_waits : (f d : Bool) → cond {A = Option Price} (f && ((not d || false) && d)) (Some terms.mark) None ≡ None
     floor_waits f d = grind (arith, common_steps)
@@ -95,10 +94,8 @@ module _ (order : ℕ → ℕ → Bool) (target : Step → ℕ → ℕ) (total :
     rests_new t =
         let p = t.price in
         record {
-          waits = ap (λ l. judged (not (order m p.value) || false) l p) (same_price (order p.value p.value) p)
-              ∙ ap (λ o. fires_over terms.side (option_or o (at_floor order target terms (p ∷ []) p))) (target_waits (terms.options.stay && not (order p.value m)) (reached_target order target terms.step p p) (reached_itself order target terms.step p (beyond p)))
-              ∙ ap (fires_over terms.side) (floor_waits terms.options.floor (order m p.value));
-          stays = ap state.Tracking (same_price (order p.value p.value) p);
+          waits = simp (same_price, reached_itself order target terms.step p (beyond p), waits_at, floor_waits);
+          stays = simp same_price;
         }
 
     rests_idle : (t : Tick) → order t.price.value m ≡ false → Rests M told state.Idle t
