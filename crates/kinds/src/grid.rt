@@ -121,8 +121,7 @@ impl Condition for Grid {
     ghost proper = { λ c. grid_proper c.terms c.stage };
 
     fn tell(&mut self, event: Event) -> Answer {
-        let pair = (self.stage, event);
-        match pair {
+        match (self.stage, event) {
             (GridStage::Watching { base }, Event::Tick(t)) => match self.fired(base, t.price) {
                 Some(fire) => {
                     self.stage = self.terms.mode.stage_after_fire(t.price);

@@ -47,7 +47,7 @@ pub struct Trail<D> {
 }
 
 impl<D: Direction> Trail<D> {
-    // A trail to which no price has come yet.
+    // A trail to whose mark no price has come yet.
     pub(crate) fn new(direction: D, terms: TrailTerms) -> Trail<D>
         ensures { ⟦<Trail<D> as Condition>⟧.meaning result ≡ trail_means D.Direction.order D.Direction.target terms state.Idle }
     {
@@ -121,8 +121,7 @@ impl<D: Direction> Condition for Trail<D> {
     ghost proper = { λ c. trail_proper D.Direction.order D.Direction.target c.terms c.state };
 
     fn tell(&mut self, event: Event) -> Answer {
-        let pair = (self.state, event);
-        match pair {
+        match (self.state, event) {
             (TrailState::Idle, Event::Tick(t)) => {
                 self.state = self.begin(t.price);
                 Answer::Wait

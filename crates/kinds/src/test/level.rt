@@ -15,6 +15,7 @@ pub struct Level<D> {
 }
 
 impl<D> Level<D> {
+    // The contract names the field, since a trigger is said over a direction and D may be any type.
     pub fn new(direction: D, price: Price) -> Level<D>
         ensures { result.price ≡ price }
     {

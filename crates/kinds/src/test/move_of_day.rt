@@ -25,6 +25,7 @@ pub struct MoveOfDay<D> {
 }
 
 impl<D> MoveOfDay<D> {
+    // The contract names the field, since a trigger is said over a direction and D may be any type.
     pub fn new(direction: D, distance: Distance) -> MoveOfDay<D>
         ensures { result.distance ≡ distance }
     {
