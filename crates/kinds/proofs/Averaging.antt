@@ -1,6 +1,5 @@
--- The average of some closes and a price is a price.
-use Rattle.std.proofs.Common.{◌≡◌, ℕ, ◌+◌, ◌-◌, ◌*◌, ◌/◌, ◌<◌, ◌≤◌, Bool, true, false, cond, not, ◌&&◌, ◌||◌, T, eqb, leb, is_some, Some, None, Option, Result, sym, refl, ap, ◌∙◌, le-div_iff_mul-le, arith, ne_eqb, eqb-true, leb-true}
-use native.Mathlib.Nat.{div-le_of_le-mul}
+-- What the average of some closes and a price is, and where it is a yes.
+use Rattle.std.proofs.Common.{◌≡◌, ℕ, ◌+◌, ◌-◌, ◌*◌, ◌/◌, Bool, true, Option, Result, sym, ap, ◌∙◌, ne_eqb, rules}
 use Rattle.std.specs.Option.{ok_or}
 use Rattle.std.specs.Result.{result_ok}
 use Rattle.values.specs.Bounds.{least_price, greatest_price}
@@ -8,64 +7,23 @@ use Rattle.values.specs.Days.{day_count}
 use Rattle.values.specs.Making.{seen, checked}
 use Rattle.values.specs.Prices.{priced}
 use Rattle.values.specs.declared.days.AveragingDays.{AveragingDays}
-use Rattle.values.specs.declared.days.AveragingDays.TheVariants as days
 use Rattle.values.specs.declared.fault.MakingFault.{MakingFault}
 use Rattle.values.specs.declared.fault.MakingFault.TheVariants as making
 use Rattle.values.specs.declared.price.Price.{Price}
-use Rattle.values.proofs.Pricing.{priced_price, made_priced}
+use Rattle.values.proofs.Pricing.{made_priced}
 use Rattle.conditions.specs.Closes.{sum_before}
-use Rattle.conditions.specs.Sums.{sums}
-use Rattle.kinds.specs.Tests.{at_average, average_yes}
+use Rattle.kinds.specs.Tests.{average_yes}
 use Rattle.conditions.specs.declared.event.Day.{Day}
 
--- a sum that is not 0 is one of m prices
-sum_ends : (m s : ℕ) → (s ≡ 0 → ⊥) → (a b c : Bool) → eqb s 0 ≡ a → leb (m * least_price) s ≡ b → leb s (m * greatest_price) ≡ c → T (a || (b && c)) → (m * least_price ≤ s) × (s ≤ m * greatest_price)
-sum_ends m s some true b c ea eb ec t = absurd (some (eqb-true s 0 ea))
-sum_ends m s some false true true ea eb ec t = (leb-true _ _ eb, leb-true _ _ ec)
-sum_ends m s some false true false ea eb ec t = absurd t
-sum_ends m s some false false c ea eb ec t = absurd t
+made_part : (o : Option Price) → result_ok (ok_or o making.Price) ≡ o
+made_part o = search rules
 
-several : (d : AveragingDays) → 1 < day_count d
-several days.Five = omega arith
-several days.Ten = omega arith
-several days.Twenty = omega arith
-several days.Thirty = omega arith
-several days.Sixty = omega arith
-
-module _ (d : AveragingDays) (s : ℕ) (price : Price) (fits : T (sums (day_count d - 1) s)) (some : s ≡ 0 → ⊥) where
-  abbrev n : ℕ
-  n = day_count d
-
-  abbrev pub mean : ℕ
-  mean = (s + price.value) / n
-
-  mean_price : Price
-  mean_price =
-      let ends = sum_ends (n - 1) s some (eqb s 0) (leb ((n - 1) * least_price) s) (leb s ((n - 1) * greatest_price)) refl refl refl fits in
-      let more = several d in
-      record {
-        value = mean;
-        low = let pos : 0 < n = omega arith in (le-div_iff_mul-le pos).1 (omega (arith, ends.0, price.low));
-        high = div-le_of_le-mul n (omega (arith, ends.1, price.high));
-      }
-
-  pub mean_some : is_some (priced mean) ≡ true
-  unfolding mean_price
-  mean_some = ap is_some (priced_price mean_price)
-
-  made_part : (o : Option Price) → result_ok (ok_or o making.Price) ≡ o
-  made_part None = refl
-  made_part (Some p) = refl
-
-  pub mean_made : (r : Result Price MakingFault) → seen (λ p. p.value) r ≡ checked least_price greatest_price making.Price mean → result_ok r ≡ priced mean
-  mean_made r e = ap result_ok (made_priced mean r e) ∙ made_part (priced mean)
+-- a number that was made into a price, or none
+pub made_ok : (n : ℕ) (r : Result Price MakingFault) → seen (λ p. p.value) r ≡ checked least_price greatest_price making.Price n → result_ok r ≡ priced n
+made_ok n r e = ap result_ok (made_priced n r e) ∙ made_part (priced n)
 
 module _ (order : ℕ → ℕ → Bool) (d : AveragingDays) (day : Day) (price : Price) (r : Option Price) where
   -- where the answer is yes
   pub yes_average : true ≡ order (sum_before d day.sums) ((day_count d - 1) * price.value) → (sum_before d day.sums ≡ 0 → ⊥)
-      → r ≡ priced ((sum_before d day.sums + price.value) / day_count d) → is_some r ≡ true → (r ≡ average_yes order d day price) × (is_some r ≡ at_average order d day price)
-  yes_average hit some is found =
-      let yes : at_average order d day price ≡ true =
-      ap (λ b. not b && order (sum_before d day.sums) ((day_count d - 1) * price.value)) (ne_eqb (sum_before d day.sums) 0 some) ∙ sym hit
-      in
-      (is ∙ ap (λ b. cond b (priced ((sum_before d day.sums + price.value) / day_count d)) None) (sym yes), found ∙ sym yes)
+      → r ≡ priced ((sum_before d day.sums + price.value) / day_count d) → r ≡ average_yes order d day price
+  yes_average hit some is = simp (ne_eqb (sum_before d day.sums) 0 some, sym hit) is

@@ -9,7 +9,7 @@ use Rattle.conditions.specs.declared.event.Event.{Event}
 use Rattle.conditions.specs.declared.event.Event.TheVariants as event
 use Rattle.conditions.specs.declared.event.Fire.{Fire}
 use Rattle.kinds.specs.Bases.{Unsettled, LatestFire, none, FromLatestFire, LatestFill, unfired, awaited, filled, unless_awaited, FromLatestFill}
-use Rattle.kinds.specs.Grids.{fire, stage_by, stage_next, stage_after, answer_by, answer_at, grid_answer, grid_means, market_terms, fill_terms}
+use Rattle.kinds.specs.Grids.{fire, stage_by, stage_next, stage_after, answer_at, grid_answer, grid_means, market_terms, fill_terms}
 use Rattle.kinds.specs.declared.grid.GridTerms.{GridTerms}
 use Rattle.kinds.specs.declared.grid.GridStage.{GridStage}
 use Rattle.kinds.specs.declared.grid.GridStage.TheVariants as stage
@@ -30,18 +30,15 @@ module _ (r : PriceRange) (down up : Step) (first : Price) where
   abbrev Stands : List Event → GridStage → Type 0
   Stands h s = (b : Price) × (s ≡ stage.Watching b) × LatestFire m first h b
 
-  at_stage : (h : List Event) (s : GridStage) (e : Event) → stage_after terms (stage.Watching first) h ≡ s → m h e ≡ answer_at terms s e
-  at_stage h s e is = ap (λ v. answer_at terms v e) is
-
   tick_more : (h : List Event) (b : Price) (t : Tick) (o : Option Fire) → fire terms b t.price ≡ o → stage_after terms (stage.Watching first) h ≡ stage.Watching b
       → LatestFire m first h b → Stands (h ++ event.Tick t ∷ []) (stage_by terms b t.price o)
-  tick_more h b t None e is l = (b, refl, latest_quiet m first h b (event.Tick t) l (ap fires (at_stage h (stage.Watching b) (event.Tick t) is ∙ ap (answer_by terms) e)))
-  tick_more h b t (Some f) e is l = (t.price, refl, latest_fired m first h t (ap fires (at_stage h (stage.Watching b) (event.Tick t) is ∙ ap (answer_by terms) e)))
+  tick_more h b t None e is l = (b, refl, latest_quiet m first h b (event.Tick t) l (simp (is, e)))
+  tick_more h b t (Some f) e is l = (t.price, refl, latest_fired m first h t (simp (is, e)))
 
   watch_more : (h : List Event) (b : Price) (e : Event) → stage_after terms (stage.Watching first) h ≡ stage.Watching b → LatestFire m first h b → Stands (h ++ e ∷ []) (stage_next terms (stage.Watching b) e)
   watch_more h b (event.Tick t) is l = tick_more h b t (fire terms b t.price) refl is l
-  watch_more h b (event.Day d) is l = (b, refl, latest_quiet m first h b (event.Day d) l (ap fires (at_stage h (stage.Watching b) (event.Day d) is)))
-  watch_more h b (event.Settlement p) is l = (b, refl, latest_quiet m first h b (event.Settlement p) l (ap fires (at_stage h (stage.Watching b) (event.Settlement p) is)))
+  watch_more h b (event.Day d) is l = (b, refl, latest_quiet m first h b (event.Day d) l (simp is))
+  watch_more h b (event.Settlement p) is l = (b, refl, latest_quiet m first h b (event.Settlement p) l (simp is))
 
   abbrev StandsAfter : List Event → Type 0
   StandsAfter h = Stands h (stage_after terms (stage.Watching first) h)
@@ -49,12 +46,12 @@ module _ (r : PriceRange) (down up : Step) (first : Price) where
   more : (h : List Event) (e : Event) → StandsAfter h → StandsAfter (h ++ e ∷ [])
   more h e x =
       let z = watch_more h x.0 e x.1 x.2 in
-      (z.0, after_more terms h e (stage.Watching first) ∙ ap (λ s. stage_next terms s e) x.1 ∙ z.1, z.2)
+      (z.0, simp (after_more terms h e (stage.Watching first), x.1) z.1, z.2)
 
   pub market_latest : FromLatestFire m first (grid_answer terms)
   market_latest h =
       let x = by_events StandsAfter (first, refl, none tt) more h in
-      (x.0, x.2, λ t. at_stage h (stage.Watching x.0) (event.Tick t) x.1)
+      (x.0, x.2, λ t. simp x.1)
 
 -- what a stage in fill mode waits for
 abbrev base_of : GridStage → Option Price
@@ -92,13 +89,13 @@ module _ (down up : Step) (first : Price) where
 
   fill_tick : (h : List Event) (b : Price) (t : Tick) (o : Option Fire) → fire terms_fill b t.price ≡ o → stage_then h ≡ stage.Watching b
       → LatestFill n first h (Some b) → LatestFill n first (h ++ event.Tick t ∷ []) (base_of (stage_by terms_fill b t.price o))
-  fill_tick h b t None e is l = fill_quiet n first (event.Tick t) h l (ap fires (ap (λ v. answer_at terms_fill v (event.Tick t)) is ∙ ap (answer_by terms_fill) e))
-  fill_tick h b t (Some f) e is l = awaited (h ++ event.Tick t ∷ []) h [] t refl (ap fires (ap (λ v. answer_at terms_fill v (event.Tick t)) is ∙ ap (answer_by terms_fill) e)) tt
+  fill_tick h b t None e is l = fill_quiet n first (event.Tick t) h l (simp (is, e))
+  fill_tick h b t (Some f) e is l = awaited (h ++ event.Tick t ∷ []) h [] t refl (simp (is, e)) tt
 
   fill_next : (h : List Event) (s : GridStage) (e : Event) → stage_then h ≡ s → LatestFill n first h (base_of s) → LatestFill n first (h ++ e ∷ []) (base_of (stage_next terms_fill s e))
   fill_next h (stage.Watching b) (event.Tick t) is l = fill_tick h b t (fire terms_fill b t.price) refl is l
-  fill_next h (stage.Watching b) (event.Day d) is l = fill_quiet n first (event.Day d) h l (ap fires (ap (λ v. answer_at terms_fill v (event.Day d)) is))
-  fill_next h (stage.Watching b) (event.Settlement p) is l = fill_quiet n first (event.Settlement p) h l (ap fires (ap (λ v. answer_at terms_fill v (event.Settlement p)) is))
+  fill_next h (stage.Watching b) (event.Day d) is l = fill_quiet n first (event.Day d) h l (simp is)
+  fill_next h (stage.Watching b) (event.Settlement p) is l = fill_quiet n first (event.Settlement p) h l (simp is)
   fill_next h stage.Awaiting (event.Tick t) is l = fill_awaits n first (event.Tick t) h l tt
   fill_next h stage.Awaiting (event.Day d) is l = fill_awaits n first (event.Day d) h l tt
   fill_next h stage.Awaiting (event.Settlement p) is l = filled (h ++ event.Settlement p ∷ []) h [] p refl l tt

@@ -18,8 +18,8 @@ module _ (P : List Event → Type 0) (start : P []) (more : (h : List Event) (e 
   by_events h = from [] h start
 
 pub quiet_more : (m : Meaning) (early late : List Event) (e : Event) → Quiet m early late → fires (m (early ++ late) e) ≡ false → Quiet m early (late ++ e ∷ [])
-quiet_more m early [] e q f = (ap (λ l. fires (m l e)) (sym (append-nil early)) ∙ f, tt)
-quiet_more m early (x ∷ late) e q f = (q.0, quiet_more m (early ++ x ∷ []) late e q.1 (ap (λ l. fires (m l e)) (append_assoc early (x ∷ []) late) ∙ f))
+quiet_more m early [] e q f = (simp append-nil at f, tt)
+quiet_more m early (x ∷ late) e q f = (q.0, quiet_more m (early ++ x ∷ []) late e q.1 (rw append_assoc f))
 
 -- one event more that does not fire
 pub latest_quiet : (m : Meaning) (first : Price) (h : List Event) (b : Price) (e : Event) → LatestFire m first h b → fires (m h e) ≡ false → LatestFire m first (h ++ e ∷ []) b

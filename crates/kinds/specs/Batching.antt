@@ -1,19 +1,18 @@
 -- The batch answers its meaning, keeps the repeat law, and is answered from the latest fire.
 use Rattle.std.specs.Prelude.{◌≡◌, ℕ, Bool, false, List, [], ◌∷◌, ◌++◌, Some, None, Option, refl}
-use Rattle.std.proofs.Common.{ap, ◌∙◌, sym}
 use Rattle.values.specs.Directions.{Beyond}
 use Rattle.values.specs.Prices.{reached_target}
 use Rattle.values.specs.declared.price.Price.{Price}
 use Rattle.values.specs.declared.step.Step.{Step}
 use Rattle.values.proofs.Pricing.{reached_itself}
-use Rattle.conditions.specs.Meaning.{Meaning, after, ends, fires, Repeats, Proper}
+use Rattle.conditions.specs.Meaning.{Meaning, ends, Repeats, Proper}
 use Rattle.conditions.specs.declared.event.Tick.{Tick}
 use Rattle.conditions.specs.declared.event.Event.{Event}
 use Rattle.conditions.specs.declared.event.Event.TheVariants as event
 use Rattle.conditions.specs.declared.event.Side.{Side}
 use Rattle.conditions.proofs.States.{Rests, lawful}
 use Rattle.kinds.specs.Bases.{LatestFire, none, FromLatestFire}
-use Rattle.kinds.specs.Batches.{fires_on, batch_answer, base_by, base_next, base_after, batch_means}
+use Rattle.kinds.specs.Batches.{batch_answer, base_by, base_next, base_after, batch_means}
 use Rattle.kinds.specs.Basing.{by_events, latest_quiet, latest_fired}
 
 module _ (order : ℕ → ℕ → Bool) (target : Step → ℕ → ℕ) (side : Side) (step : Step) where
@@ -26,14 +25,6 @@ module _ (order : ℕ → ℕ → Bool) (target : Step → ℕ → ℕ) (side : 
   abbrev reach : Price → Price → Option Price
   reach = reached_target order target step
 
-  -- one tick as the code takes it
-  pub turn : (base : Price) (v : Price) (e : Event) (t : Tick) (o : Option Price) → e ≡ event.Tick t → o ≡ reach base t.price → v ≡ base_by order target side step o base t.price
-      → (fires_on side o ≡ M base [] e) × (M v ≡ after (M base) (e ∷ []))
-  turn base v e t o ee eo ev = (
-    ap (fires_on side) eo ∙ ap (M base []) (sym ee),
-    ap M (ev ∙ ap (λ p. base_by order target side step p base t.price) eo) ∙ ap (λ x. after (M base) (x ∷ [])) (sym ee),
-  )
-
   -- the law of the latest fire
   after_more : (h : List Event) (e : Event) (b : Price) → base_after order target side step b (h ++ e ∷ []) ≡ told (base_after order target side step b h) e
   after_more [] e b = refl
@@ -44,8 +35,8 @@ module _ (order : ℕ → ℕ → Bool) (target : Step → ℕ → ℕ) (side : 
     base h = base_after order target side step first h
 
     from_tick : (h : List Event) (t : Tick) (o : Option Price) → reach (base h) t.price ≡ o → LatestFire (M first) first h (base h) → LatestFire (M first) first (h ++ event.Tick t ∷ []) (base_by order target side step o (base h) t.price)
-    from_tick h t None e l = latest_quiet (M first) first h (base h) (event.Tick t) l (ap (λ o. fires (fires_on side o)) e)
-    from_tick h t (Some p) e l = latest_fired (M first) first h t (ap (λ o. fires (fires_on side o)) e)
+    from_tick h t None e l = latest_quiet (M first) first h (base h) (event.Tick t) l (simp e)
+    from_tick h t (Some p) e l = latest_fired (M first) first h t (simp e)
 
     from_next : (h : List Event) (e : Event) → LatestFire (M first) first h (base h) → LatestFire (M first) first (h ++ e ∷ []) (told (base h) e)
     from_next h (event.Tick t) l = from_tick h t (reach (base h) t.price) refl l
@@ -60,7 +51,7 @@ module _ (order : ℕ → ℕ → Bool) (target : Step → ℕ → ℕ) (side : 
 
   module _ (beyond : (p : Price) → Beyond order p.value (target step p.value)) where
     rests_at : (b : Price) (t : Tick) → reach b t.price ≡ None → Rests M told b t
-    rests_at b t e = record { waits = ap (fires_on side) e; stays = ap (λ o. base_by order target side step o b t.price) e }
+    rests_at b t e = record { waits = simp e; stays = simp e }
 
     rests_by : (b : Price) (t : Tick) (o : Option Price) → reach b t.price ≡ o → Rests M told (base_by order target side step o b t.price) t
     rests_by b t None e = rests_at b t e

@@ -1,11 +1,10 @@
 -- The grid answers its meaning and keeps the repeat law.
-use Rattle.std.specs.Prelude.{◌≡◌, false, [], ◌∷◌, Some, None, Option, refl}
-use Rattle.std.proofs.Common.{ap, ◌∙◌, sym}
+use Rattle.std.specs.Prelude.{◌≡◌, false, Some, None, Option, refl}
 use Rattle.values.specs.Directions.{Beyond, rising_order, rising_target, falling_order, falling_target}
 use Rattle.values.specs.declared.price.Price.{Price}
 use Rattle.values.proofs.Pricing.{reached_itself}
-use Rattle.conditions.specs.Meaning.{Meaning, after, fires, Repeats, Proper}
-use Rattle.kinds.specs.Grids.{allowed, sell_target, chosen, fire, moved, stage_by, stage_next, stage_after, answer_by, answer_at, grid_means}
+use Rattle.conditions.specs.Meaning.{Meaning, fires, Repeats, Proper}
+use Rattle.kinds.specs.Grids.{allowed, fire, moved, stage_by, stage_next, stage_after, answer_at, grid_means}
 use Rattle.conditions.specs.declared.event.Tick.{Tick}
 use Rattle.conditions.specs.declared.event.Event.{Event}
 use Rattle.conditions.specs.declared.event.Event.TheVariants as event
@@ -22,15 +21,6 @@ allowed_none : (m : GridMode) → allowed m None ≡ None
 allowed_none (mode.Market r) = refl
 allowed_none mode.Fill = refl
 
--- one tick while watching, as the code takes it
-pub turn : (terms : GridTerms) (s v : GridStage) (e : Event) (base : Price) (t : Tick) (o : Option Fire)
-    → s ≡ stage.Watching base → e ≡ event.Tick t → o ≡ fire terms base t.price → v ≡ stage_by terms base t.price o
-    → (answer_by terms o ≡ grid_means terms s [] e) × (grid_means terms v ≡ after (grid_means terms s) (e ∷ []))
-turn terms s v e base t o es ee eo ev = (
-  ap (answer_by terms) eo ∙ ap (λ u. answer_at terms u (event.Tick t)) (sym es) ∙ ap (answer_at terms s) (sym ee),
-  ap (grid_means terms) (ev ∙ ap (stage_by terms base t.price) eo ∙ ap (λ u. stage_next terms u (event.Tick t)) (sym es) ∙ ap (stage_next terms s) (sym ee)),
-)
-
 module _ (terms : GridTerms)
     (down : (p : Price) → Beyond falling_order p.value (falling_target terms.down p.value))
     (up : (p : Price) → Beyond rising_order p.value (rising_target terms.up p.value)) where
@@ -43,14 +33,11 @@ module _ (terms : GridTerms)
   -- a price fires nothing from itself as the base
   fire_itself : (p : Price) → fire terms p p ≡ None
   fire_itself p =
-      ap (λ o. chosen terms (allowed terms.mode o) (sell_target terms p p)) (reached_itself falling_order falling_target terms.down p (down p))
-      ∙ ap (λ o. chosen terms o (sell_target terms p p)) (allowed_none terms.mode)
-      ∙ ap (λ o. chosen terms None (allowed terms.mode o)) (reached_itself rising_order rising_target terms.up p (up p))
-      ∙ ap (chosen terms None) (allowed_none terms.mode)
+      simp (reached_itself falling_order falling_target terms.down p (down p), reached_itself rising_order rising_target terms.up p (up p), allowed_none)
 
   -- a base from which the tick fires nothing
   rests_at : (base : Price) (t : Tick) → fire terms base t.price ≡ None → Rests M told (stage.Watching base) t
-  rests_at base t e = record { waits = ap (answer_by terms) e; stays = ap (stage_by terms base t.price) e }
+  rests_at base t e = record { waits = simp e; stays = simp e }
 
   rests_new : (t : Tick) → Rests M told (stage.Watching t.price) t
   rests_new t = rests_at t.price t (fire_itself t.price)
@@ -58,7 +45,7 @@ module _ (terms : GridTerms)
   rests_awaiting : (t : Tick) → Rests M told stage.Awaiting t
   rests_awaiting t = record { waits = refl; stays = refl }
 
-  rests_moved : (m : GridMode) (t : Tick) → Rests M told (moved terms m t.price) t
+  rests_moved : (m : GridMode) (t : Tick) → Rests M told (moved m t.price) t
   rests_moved (mode.Market r) t = rests_new t
   rests_moved mode.Fill t = rests_awaiting t
 

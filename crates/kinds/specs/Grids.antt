@@ -1,5 +1,6 @@
 -- A grid: buys at the falling, and sells at the rising target of its base.
-use Rattle.std.specs.Prelude.{cond, List, [], ◌∷◌, Some, None, Option}
+use Rattle.std.specs.Prelude.{cond, List, [], ◌∷◌, Some, None, Option, option_map}
+use Rattle.std.specs.Option.{option_or}
 use Rattle.values.specs.Directions.{rising_order, rising_target, falling_order, falling_target}
 use Rattle.values.specs.Prices.{reached_target}
 use Rattle.values.specs.Ranges.{inside}
@@ -33,6 +34,11 @@ abbrev pub follows_fire : GridMode → Next
 follows_fire (mode.Market r) = next.GoesOn
 follows_fire mode.Fill = next.AwaitsSettlement
 
+-- where a fire at a price leaves the grid: the price is the next base, or the settlement's will be
+abbrev pub moved : GridMode → Price → GridStage
+moved (mode.Market r) price = stage.Watching price
+moved mode.Fill price = stage.Awaiting
+
 module _ (terms : GridTerms) where
   -- the targets of a base that a price has reached
   abbrev pub buy_target : Price → Price → Option Price
@@ -46,17 +52,10 @@ module _ (terms : GridTerms) where
 
   -- what a price fires, by the targets that it has reached
   abbrev pub chosen : Option Price → Option Price → Option Fire
-  chosen (Some t) sell = Some (fire_at side.Buy t)
-  chosen None (Some t) = Some (fire_at side.Sell t)
-  chosen None None = None
+  chosen buy sell = option_or (option_map (fire_at side.Buy) buy) (option_map (fire_at side.Sell) sell)
 
   abbrev pub fire : Price → Price → Option Fire
   fire base price = chosen (buy_target base price) (sell_target base price)
-
-  -- where a fire at a price leaves the grid: the price is the next base, or the settlement's will be
-  abbrev pub moved : GridMode → Price → GridStage
-  moved (mode.Market r) price = stage.Watching price
-  moved mode.Fill price = stage.Awaiting
 
   abbrev pub stage_by : Price → Price → Option Fire → GridStage
   stage_by base price None = stage.Watching base

@@ -3,8 +3,6 @@ use Rattle.std.specs.Prelude.{ℕ, Bool, true, false, Some, None, Ok, Err, Optio
 use Rattle.values.specs.Directions.{rising_order, rising_target, falling_order, falling_target}
 use Rattle.values.specs.Prices.{priced}
 use Rattle.values.specs.declared.days.AveragingDays.{AveragingDays}
-use Rattle.values.specs.declared.direction.Falling.{Falling}
-use Rattle.values.specs.declared.direction.Rising.{Rising}
 use Rattle.values.specs.declared.fault.MakingFault.{MakingFault}
 use Rattle.values.specs.declared.fault.MakingFault.TheVariants as fault
 use Rattle.values.specs.declared.hold.Hold.{Hold}
@@ -15,22 +13,16 @@ use Rattle.conditions.specs.Layers.{either, in_range}
 use Rattle.conditions.specs.Meaning.{Meaning}
 use Rattle.conditions.specs.declared.event.Side.{Side}
 use Rattle.conditions.specs.declared.event.Side.TheVariants as side
-use Rattle.conditions.specs.declared.layer.either.Either.{Either}
-use Rattle.kinds.specs.Cases.{one_means}
 use Rattle.kinds.specs.Grids.{market_grid, fill_grid}
 use Rattle.kinds.specs.Holds.{held_means}
 use Rattle.kinds.specs.Prompts.{prompt_means}
 use Rattle.kinds.specs.Tests.{level_yes, move_yes, average_yes}
-use Rattle.kinds.specs.Trails.{fall_back, trail_means}
-use Rattle.kinds.specs.declared.one_of.OneOf.{OneOf}
-use Rattle.kinds.specs.declared.test.level.Level.{Level}
+use Rattle.kinds.specs.Trails.{fall_back}
 use Rattle.kinds.specs.declared.test.move_of_day.Distance.{Distance}
-use Rattle.kinds.specs.declared.test.prompt.Prompt.{Prompt}
-use Rattle.kinds.specs.declared.trail.Trail.{Trail}
 
 -- a level, at the first tick that reaches it
 abbrev pub level_kind : (ℕ → ℕ → Bool) → Price → Side → Meaning
-level_kind order price s = prompt_means (λ d p. level_yes order price p) s None
+level_kind order price s = prompt_means (level_yes order price) s None
 
 -- a move of the day, at the first tick that has gone so far
 abbrev pub move_kind : (ℕ → ℕ → Bool) → (Step → ℕ → ℕ) → (Price → Price → Price) → Distance → Side → Meaning
@@ -54,18 +46,6 @@ exit_at (Some low) (Some high) trail = Ok (either (level_kind falling_order low 
 -- stop or profit, at the targets of a base, which have to be prices
 abbrev pub stop_or_profit : Price → Step → Step → Option Step → Result Meaning MakingFault
 stop_or_profit base stop profit trail = exit_at (priced (falling_target stop base.value)) (priced (rising_target profit base.value)) trail
-
--- what a profit, and a stop or profit, in mid-life means
-abbrev pub profit_means : OneOf (Prompt (Level Rising)) (Trail Falling) → Meaning
-profit_means o =
-    one_means
-    (λ c. prompt_means (λ d p. level_yes rising_order c.test.price p) c.side c.day)
-    (λ c. trail_means falling_order falling_target c.terms c.state)
-    o
-
-abbrev pub exit_means : Either (Prompt (Level Falling)) (OneOf (Prompt (Level Rising)) (Trail Falling)) → Meaning
-exit_means e =
-    either (prompt_means (λ d p. level_yes falling_order e.first.test.price p) e.first.side e.first.day) (profit_means e.second)
 
 -- a grid under its range
 abbrev pub market_grid_kind : PriceRange → Price → Step → Step → Meaning

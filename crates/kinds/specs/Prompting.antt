@@ -1,8 +1,6 @@
 -- Prompt answers its meaning and keeps the repeat law.
 use Rattle.std.specs.Prelude.{◌≡◌, false, List, [], ◌∷◌, Some, None, Option, refl}
-use Rattle.std.proofs.Common.{sym}
 use Rattle.std.proofs.Math.Path.{fun_ext}
-use borrow.Author.Tests.{clash}
 use Rattle.values.specs.declared.price.Price.{Price}
 use Rattle.conditions.specs.Meaning.{Meaning, ends, fires_over, Repeats, Proper}
 use Rattle.kinds.specs.Prompts.{asked, prompt_means}
@@ -15,7 +13,7 @@ use Rattle.conditions.specs.declared.event.Answer.TheVariants as answer
 use Rattle.conditions.proofs.States.{Rests, lawful}
 
 pub not_over : (s : Side) (o : Option Price) → ends (fires_over s o) ≡ false → fires_over s o ≡ answer.Wait
-not_over s (Some t) e = absurd (clash (sym e))
+not_over s (Some t) e = cc
 not_over s None e = refl
 
 module _ (test : Day → Price → Option Price) (side : Side) where

@@ -13,13 +13,13 @@ use Rattle.kinds.specs.declared.test.move_of_day.Distance.TheVariants as distanc
 
 module _ (order : ℕ → ℕ → Bool) where
   -- the price lies at the level or beyond it
-  abbrev pub level_yes : Price → Price → Option Price
-  level_yes level price = cond (order level.value price.value) (Some level) None
+  abbrev pub level_yes : Price → Day → Price → Option Price
+  level_yes level day price = cond (order level.value price.value) (Some level) None
 
   -- the price has gone by a percentage from the previous close, or to the limit of the day that way
   abbrev pub move_yes : (Step → ℕ → ℕ) → (Price → Price → Price) → Distance → Day → Price → Option Price
   move_yes target furthest (distance.Percent r) day price = reached_target order target (step.Percent r) day.close price
-  move_yes target furthest distance.Limit day price = level_yes (furthest day.lower day.upper) price
+  move_yes target furthest distance.Limit day price = level_yes (furthest day.lower day.upper) day price
 
   -- there is a sum S of the newest N - 1 closes, and N - 1 times the price lies at it or beyond it
   abbrev pub at_average : AveragingDays → Day → Price → Bool

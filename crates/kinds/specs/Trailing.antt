@@ -1,16 +1,16 @@
 -- The trail answers its meaning and keeps the repeat law.
 use Rattle.std.specs.Prelude.{◌≡◌, ℕ, Bool, true, false, cond, not, ◌&&◌, ◌||◌, List, [], ◌∷◌, ◌++◌, Some, None, Option, refl}
-use Rattle.std.proofs.Common.{ap, ◌∙◌, sym}
+use Rattle.std.proofs.Common.{ap, sym, arith}
+use Rattle.std.proofs.Math.Bool.{or-false}
 use Rattle.std.proofs.Math.Path.{fun_ext}
-use borrow.Author.Tests.{clash}
+use Rattle.std.proofs.lemmas.Grind.{common_steps}
 use Rattle.std.specs.Option.{option_or}
 use Rattle.values.specs.Directions.{TotalOrder, Beyond}
-use Rattle.values.specs.Prices.{reached_target}
 use Rattle.values.specs.declared.price.Price.{Price}
 use Rattle.values.specs.declared.step.Step.{Step}
 use Rattle.values.proofs.Pricing.{reached_itself}
 use Rattle.conditions.specs.Meaning.{Meaning, after, ends, fires_over, Repeats, Proper}
-use Rattle.kinds.specs.Trails.{prices, watch, least, some_below, by_target, at_floor, trigger, watched, trail_means, begun, by_floor}
+use Rattle.kinds.specs.Trails.{prices, watch, least, some_below, by_target, trigger, watched, trail_means, begun, by_floor}
 use Rattle.conditions.specs.declared.event.Tick.{Tick}
 use Rattle.conditions.specs.declared.event.Event.{Event}
 use Rattle.conditions.specs.declared.event.Event.TheVariants as event
@@ -39,14 +39,12 @@ module _ (order : ℕ → ℕ → Bool) (target : Step → ℕ → ℕ) (total :
   told s (event.Settlement p) = s
 
   -- the least of two prices lies strictly below the mark where one of them does
-  below_least : (b bm bp : Bool) (x p : Price) (r : Bool) → order p.value x.value ≡ b → order m x.value ≡ bm → order m p.value ≡ bp
-      → not (order m (cond b p x).value) || r ≡ not (order m x.value) || (not (order m p.value) || r)
-  below_least true true bp x p r eb em ep = ap (λ c. not c || (not (order m p.value) || r)) (sym em)
-  below_least true false true x p r eb em ep = absurd (clash (sym em ∙ total.through m p.value x.value ep eb))
-  below_least true false false x p r eb em ep = ap (λ c. not c || r) ep ∙ ap (λ c. not c || (not (order m p.value) || r)) (sym em)
-  below_least false false bp x p r eb em ep = ap (λ c. not c || r) em ∙ ap (λ c. not c || (not (order m p.value) || r)) (sym em)
-  below_least false true true x p r eb em ep = ap (λ c. not c || r) em ∙ ap (λ c. not c || r) (sym ep) ∙ ap (λ c. not c || (not (order m p.value) || r)) (sym em)
-  below_least false true false x p r eb em ep = absurd (clash (sym ep ∙ total.through m x.value p.value em (total.either p.value x.value eb)))
+  below_least : (x p : Price) (r : Bool) → not (order m (nearer x p).value) || r ≡ not (order m x.value) || (not (order m p.value) || r)
+  below_least x p r =
+      let past_p = total.through m p.value x.value in
+      let past_x = total.through m x.value p.value in
+      let one = total.either p.value x.value in
+      grind (arith, common_steps)
 
   -- the answer by whether an earlier price lay below the mark, by the least price, and by the price itself
   abbrev judged : Bool → Price → Price → Answer
@@ -55,13 +53,12 @@ module _ (order : ℕ → ℕ → Bool) (target : Step → ℕ → ℕ) (total :
   idle_step : (b : Bool) (p : Price) (l k : List Price) (u : Price)
       → trigger order target terms (watched order target terms (cond b (state.Tracking p) state.Idle) l) (watched order target terms (cond b (state.Tracking p) state.Idle) k) u
       ≡ trigger order target terms (cond b (p ∷ l) (watch order terms.mark l)) (cond b (p ∷ k) (watch order terms.mark k)) u
-  idle_step true p l k u = refl
-  idle_step false p l k u = refl
+  idle_step b p l k u = grind (arith, common_steps)
 
   track_step : (x p : Price) (l k : List Price) (u : Price)
       → judged (some_below order terms.mark (nearer x p ∷ l)) (least order (nearer x p) k) u ≡ judged (some_below order terms.mark (x ∷ p ∷ l)) (least order x (p ∷ k)) u
   track_step x p l k u =
-      ap (λ b. judged b (least order (nearer x p) k) u) (below_least (order p.value x.value) (order m x.value) (order m p.value) x p (some_below order terms.mark l) refl refl refl)
+      ap (λ b. judged b (least order (nearer x p) k) u) (below_least x p (some_below order terms.mark l))
 
   steps_at : (s : TrailState) (e : Event) (es : List Event) (x : Event) → M (told s e) es x ≡ M s (e ∷ es) x
   steps_at state.Idle (event.Tick t) es (event.Tick u) =
@@ -77,54 +74,35 @@ module _ (order : ℕ → ℕ → Bool) (target : Step → ℕ → ℕ) (total :
   pub steps : (s : TrailState) (e : Event) → M (told s e) ≡ after (M s) (e ∷ [])
   steps s e = fun_ext (λ es. fun_ext (λ x. steps_at s e es x))
 
-  or_false : (b : Bool) → b || false ≡ b
-  or_false true = refl
-  or_false false = refl
-
   -- what the code answers while tracking
   pub answers : (x : Price) (t : Tick)
       → fires_over terms.side (option_or (by_target order target terms (nearer x t.price) t.price) (by_floor order terms x t.price)) ≡ M (state.Tracking x) [] (event.Tick t)
-  answers x t = ap (λ b. judged b (nearer x t.price) t.price) (sym (or_false (not (order m x.value))))
-
-  -- one tick while tracking, as the code takes it
-  pub turn : (s : TrailState) (e : Event) (x low : Price) (t : Tick) (a : Answer) → s ≡ state.Tracking x → e ≡ event.Tick t → low ≡ nearer x t.price
-      → a ≡ fires_over terms.side (option_or (by_target order target terms low t.price) (by_floor order terms x t.price))
-      → (a ≡ M s [] e) × (M (state.Tracking low) ≡ after (M s) (e ∷ []))
-  turn s e x low t a es ee el ea = (
-    ea ∙ ap (λ l. fires_over terms.side (option_or (by_target order target terms l t.price) (by_floor order terms x t.price))) el ∙ answers x t ∙ ap (λ v. M v [] (event.Tick t)) (sym es) ∙ ap (M s []) (sym ee),
-    ap (λ l. M (state.Tracking l)) el ∙ steps (state.Tracking x) (event.Tick t) ∙ ap (λ v. after (M v) (event.Tick t ∷ [])) (sym es) ∙ ap (λ v. after (M s) (v ∷ [])) (sym ee),
-  )
+  answers x t = ap (λ b. judged b (nearer x t.price) t.price) (sym (or-false (not (order m x.value))))
 
   module _ (beyond : (p : Price) → Beyond order p.value (target terms.step p.value)) where
     same_price : (b : Bool) (p : Price) → cond b p p ≡ p
-    same_price true p = refl
-    same_price false p = refl
+    same_price b p = grind (arith, common_steps)
 
     -- a price fires nothing where it is the least one itself
-    target_waits : (b : Bool) (o : Option Price) → o ≡ None → cond b None o ≡ None
-    target_waits true o e = refl
-    target_waits false o e = e
+    waits_at : (b : Bool) → cond {A = Option Price} b None None ≡ None
+    waits_at b = grind (arith, common_steps)
 
     floor_waits : (f d : Bool) → cond {A = Option Price} (f && ((not d || false) && d)) (Some terms.mark) None ≡ None
-    floor_waits true true = refl
-    floor_waits true false = refl
-    floor_waits false d = refl
+    floor_waits f d = grind (arith, common_steps)
 
     rests_new : (t : Tick) → Rests M told (state.Tracking t.price) t
     rests_new t =
         let p = t.price in
         record {
-          waits = ap (λ l. judged (not (order m p.value) || false) l p) (same_price (order p.value p.value) p)
-              ∙ ap (λ o. fires_over terms.side (option_or o (at_floor order target terms (p ∷ []) p))) (target_waits (terms.options.stay && not (order p.value m)) (reached_target order target terms.step p p) (reached_itself order target terms.step p (beyond p)))
-              ∙ ap (fires_over terms.side) (floor_waits terms.options.floor (order m p.value));
-          stays = ap state.Tracking (same_price (order p.value p.value) p);
+          waits = simp (same_price, reached_itself order target terms.step p (beyond p), waits_at, floor_waits);
+          stays = simp same_price;
         }
 
     rests_idle : (t : Tick) → order t.price.value m ≡ false → Rests M told state.Idle t
     rests_idle t e =
         record {
-          waits = ap (λ b. fires_over terms.side (trigger order target terms [] (cond b (t.price ∷ []) []) t.price)) e;
-          stays = ap (λ b. cond b (state.Tracking t.price) state.Idle) e;
+          waits = simp e;
+          stays = simp e;
         }
 
     from_idle : (b : Bool) (t : Tick) → b ≡ order t.price.value m → Rests M told (cond b (state.Tracking t.price) state.Idle) t
@@ -136,7 +114,7 @@ module _ (order : ℕ → ℕ → Bool) (target : Step → ℕ → ℕ) (total :
     from_track false x t e n =
         record {
           waits = not_over terms.side (trigger order target terms (x ∷ []) (x ∷ t.price ∷ []) t.price) n;
-          stays = ap (λ b. state.Tracking (cond b t.price x)) (sym e);
+          stays = simp (sym e);
         }
 
     rests : (s : TrailState) (t : Tick) → ends (M s [] (event.Tick t)) ≡ false → Rests M told (told s (event.Tick t)) t

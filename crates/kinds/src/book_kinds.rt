@@ -31,13 +31,13 @@ pub type EitherAverage = OneOf<Held<Average<Rising>>, Held<Average<Falling>>>;
 
 pub type EitherTrail = OneOf<Trail<Rising>, Trail<Falling>>;
 
-// A stop, and a profit that is a level or falls back from its top.
-pub type StopOrProfit = Either<
-    Prompt<Level<Falling>>,
-    OneOf<Prompt<Level<Rising>>, Trail<Falling>>,
->;
+// A profit that is a level or falls back from its top.
+pub type Profit = OneOf<Prompt<Level<Rising>>, Trail<Falling>>;
 
-// The kinds that fire once.
+// A stop, and a profit.
+pub type StopOrProfit = Either<Prompt<Level<Falling>>, Profit>;
+
+// The kinds that fire once. No nested OneOf: the house makes orders by these names.
 #[derive(Clone, Copy)]
 pub enum SingleShot<P = LevelOrMove, V = EitherAverage, T = EitherTrail, S = StopOrProfit> {
     LevelOrMove(P),
@@ -65,7 +65,7 @@ impl<P: Condition, V: Condition, T: Condition, S: Condition> Condition for Singl
 
 pub type EitherBatch = OneOf<Batch<Falling>, Batch<Rising>>;
 
-// The kinds that fire again and again.
+// The kinds that fire again and again, by name for the same reason.
 #[derive(Clone, Copy)]
 pub enum Repeating<B = EitherBatch, G = Range<Grid>> {
     Batch(B),

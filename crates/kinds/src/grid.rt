@@ -1,6 +1,8 @@
 // A grid: buys at the falling, and sells at the rising target of its base, again and again.
-ghost use Rattle.std.specs.Prelude.{◌≡◌};
-ghost use Rattle.kinds.specs.Grids.{grid_means, market_grid, fill_grid, allowed, buy_target, sell_target, fire, moved, follows_fire};
+ghost use Rattle.std.specs.Prelude.{◌≡◌, option_map};
+ghost use Rattle.kinds.specs.Grids.{grid_means, allowed, fire, fire_at, moved, follows_fire};
+ghost use Rattle.kinds.specs.declared.grid.GridStage.TheVariants as stage;
+ghost use Rattle.values.specs.Prices.{reached_target};
 ghost use Rattle.values.specs.Targets.{rising_beyond, falling_beyond};
 ghost use Rattle.kinds.specs.Gridding.{grid_repeats, grid_proper};
 
@@ -11,7 +13,7 @@ use values::price::Price;
 use values::range::PriceRange;
 use values::step::Step;
 
-// Where a grid takes its next base from.
+// Where a grid takes its next base from. No Option of a range: both modes have names in the trade.
 #[derive(Clone, Copy)]
 pub enum GridMode {
     // the tick that fired; only a target inside the range fires
@@ -30,6 +32,7 @@ pub struct GridTerms {
     pub up: Step,
 }
 
+// No Option of a base: the laws name both stages.
 #[derive(Clone, Copy)]
 pub enum GridStage {
     Watching { base: Price },
@@ -42,76 +45,21 @@ pub struct Grid {
     stage: GridStage,
 }
 
-impl Grid {
-    // A grid whose next base is the price that fired.
-    pub fn market(range: PriceRange, base: Price, down: Step, up: Step) -> Grid
-        ensures { grid_means result.terms result.stage ≡ market_grid range base down up }
-    {
-        let terms = GridTerms {
-            mode: GridMode::Market(range),
-            down,
-            up,
-        };
-        Grid {
-            terms,
-            stage: GridStage::Watching { base },
-        }
-    }
-
-    // A grid whose next base is the price at which its slip was settled.
-    pub fn fill(base: Price, down: Step, up: Step) -> Grid
-        ensures { grid_means result.terms result.stage ≡ fill_grid base down up }
-    {
-        let terms = GridTerms {
-            mode: GridMode::Fill,
-            down,
-            up,
-        };
-        Grid {
-            terms,
-            stage: GridStage::Watching { base },
-        }
-    }
-
-    // A target that has been reached, if the mode lets it fire.
+impl GridMode {
+    // A target that has been reached, if it may fire.
     fn admit(&self, target: Option<Price>) -> Option<Price>
-        ensures { result ≡ allowed self.now.terms.mode target }
+        ensures { result ≡ allowed self.now target }
     {
-        match self.terms.mode {
-            GridMode::Market(range) => match target {
-                Some(t) if range.contains(t) => Some(t),
-                _ => None,
-            },
+        match self {
+            GridMode::Market(range) => target.filter(|t| range.contains(*t)),
             GridMode::Fill => target,
         }
     }
 
-    // What a price fires from a base.
-    fn fired(&self, base: Price, price: Price) -> Option<Fire>
-        ensures { result ≡ fire self.now.terms base price }
-    {
-        let next = self.next_after_fire();
-        if let Some(trigger) = self.admit(Falling::reached(self.terms.down, base, price)) {
-            return Some(Fire {
-                side: Side::Buy,
-                trigger,
-                next,
-            });
-        }
-        if let Some(trigger) = self.admit(Rising::reached(self.terms.up, base, price)) {
-            return Some(Fire {
-                side: Side::Sell,
-                trigger,
-                next,
-            });
-        }
-        None
-    }
-
     fn next_after_fire(&self) -> Next
-        ensures { result ≡ follows_fire self.now.terms.mode }
+        ensures { result ≡ follows_fire self.now }
     {
-        match self.terms.mode {
+        match self {
             GridMode::Market(_) => Next::GoesOn,
             GridMode::Fill => Next::AwaitsSettlement,
         }
@@ -119,12 +67,49 @@ impl Grid {
 
     // Where a fire at a price leaves the grid.
     fn stage_after_fire(&self, price: Price) -> GridStage
-        ensures { result ≡ moved self.now.terms self.now.terms.mode price }
+        ensures { result ≡ moved self.now price }
     {
-        match self.terms.mode {
+        match self {
             GridMode::Market(_) => GridStage::Watching { base: price },
             GridMode::Fill => GridStage::Awaiting,
         }
+    }
+}
+
+impl Grid {
+    pub fn new(terms: GridTerms, base: Price) -> Grid
+        ensures { ⟦<Grid as Condition>⟧.meaning result ≡ grid_means terms (stage.Watching base) }
+    {
+        Grid {
+            terms,
+            stage: GridStage::Watching { base },
+        }
+    }
+
+    // What a price fires at the target of a base in the direction D.
+    fn at_target<D: Direction>(
+        &self,
+        side: Side,
+        step: Step,
+        base: Price,
+        price: Price,
+    ) -> Option<Fire>
+        ensures { result ≡ option_map (fire_at self.now.terms side) (allowed self.now.terms.mode (reached_target D.Direction.order D.Direction.target step base price)) }
+    {
+        let trigger = self.terms.mode.admit(D::reached(step, base, price))?;
+        Some(Fire {
+            side,
+            trigger,
+            next: self.terms.mode.next_after_fire(),
+        })
+    }
+
+    // What a price fires from a base.
+    fn fired(&self, base: Price, price: Price) -> Option<Fire>
+        ensures { result ≡ fire self.now.terms base price }
+    {
+        self.at_target::<Falling>(Side::Buy, self.terms.down, base, price)
+            .or_else(|| self.at_target::<Rising>(Side::Sell, self.terms.up, base, price))
     }
 }
 
@@ -136,11 +121,10 @@ impl Condition for Grid {
     ghost proper = { λ c. grid_proper c.terms c.stage };
 
     fn tell(&mut self, event: Event) -> Answer {
-        let pair = (self.stage, event);
-        match pair {
+        match (self.stage, event) {
             (GridStage::Watching { base }, Event::Tick(t)) => match self.fired(base, t.price) {
                 Some(fire) => {
-                    self.stage = self.stage_after_fire(t.price);
+                    self.stage = self.terms.mode.stage_after_fire(t.price);
                     Answer::Fires(fire)
                 }
                 None => Answer::Wait,

@@ -3,27 +3,24 @@
 ghost use Rattle.std.specs.Prelude.{◌≡◌};
 ghost use Rattle.values.specs.Making.{seen};
 ghost use Rattle.values.specs.Directions.{rising_order, rising_target, falling_order, falling_target};
-ghost use Rattle.conditions.specs.Layers.{in_range};
 ghost use Rattle.conditions.specs.declared.event.Side.TheVariants as side;
 ghost use Rattle.kinds.specs.Bases.{FromLatestFire, FromLatestFill};
-ghost use Rattle.kinds.specs.Batches.{batch_means, batch_answer, buy_batch, sell_batch};
-ghost use Rattle.kinds.specs.Grids.{grid_means, grid_answer, market_terms, fill_terms, market_grid, fill_grid};
-ghost use Rattle.kinds.specs.Holds.{held_means};
-ghost use Rattle.kinds.specs.Kinds.{level_kind, move_kind, average_kind, profit_kind, profit_means, stop_or_profit, exit_means, market_grid_kind, fill_grid_kind};
-ghost use Rattle.kinds.specs.Prompts.{prompt_means};
-ghost use Rattle.kinds.specs.Trails.{trail_means, rebound, fall_back, LeastIsLeast};
-ghost use Rattle.kinds.specs.Tests.{level_yes, move_yes, average_yes};
+ghost use Rattle.kinds.specs.Batches.{batch_answer, buy_batch, sell_batch};
+ghost use Rattle.kinds.specs.Grids.{grid_answer, market_terms, fill_terms, market_grid, fill_grid};
+ghost use Rattle.kinds.specs.Kinds.{level_kind, move_kind, average_kind, profit_kind, stop_or_profit, market_grid_kind, fill_grid_kind};
+ghost use Rattle.kinds.specs.Trails.{rebound, fall_back, LeastIsLeast};
 
 use crate::batch::Batch;
-use crate::book_kinds::StopOrProfit;
-use crate::grid::Grid;
+use crate::book_kinds::{Profit, StopOrProfit};
+use crate::grid::{Grid, GridMode, GridTerms};
 use crate::one_of::OneOf;
 use crate::test::average::Average;
 use crate::test::held::Held;
 use crate::test::level::Level;
 use crate::test::move_of_day::{Distance, MoveOfDay};
 use crate::test::prompt::Prompt;
-use crate::trail::{Trail, TrailOptions};
+use crate::trail::{Trail, TrailOptions, TrailTerms};
+use conditions::condition::Condition;
 use conditions::event::Side;
 use conditions::layer::either::Either;
 use conditions::layer::range::Range;
@@ -37,7 +34,7 @@ use values::step::Step;
 
 // A price at a level or beyond it. A linked order has the same condition, told of another share than it trades.
 pub fn level<D: Direction>(direction: D, price: Price, side: Side) -> Prompt<Level<D>>
-    ensures { prompt_means (λ _ p. level_yes D.Direction.order result.test.price p) result.side result.day ≡ level_kind D.Direction.order price side }
+    ensures { ⟦<Prompt<Level<D>> as Condition>⟧.meaning result ≡ level_kind D.Direction.order price side }
 {
     Prompt::new(Level::new(direction, price), side)
 }
@@ -48,7 +45,7 @@ pub fn move_of_day<D: Direction>(
     distance: Distance,
     side: Side,
 ) -> Prompt<MoveOfDay<D>>
-    ensures { prompt_means (move_yes D.Direction.order D.Direction.target D.Direction.furthest result.test.distance) result.side result.day ≡ move_kind D.Direction.order D.Direction.target D.Direction.furthest distance side }
+    ensures { ⟦<Prompt<MoveOfDay<D>> as Condition>⟧.meaning result ≡ move_kind D.Direction.order D.Direction.target D.Direction.furthest distance side }
 {
     Prompt::new(MoveOfDay::new(direction, distance), side)
 }
@@ -60,18 +57,18 @@ pub fn average<D: Direction>(
     hold: Hold,
     side: Side,
 ) -> Held<Average<D>>
-    ensures { held_means (average_yes D.Direction.order result.test.days) result.hold.seconds result.side result.day result.since ≡ average_kind D.Direction.order days hold side }
+    ensures { ⟦<Held<Average<D>> as Condition>⟧.meaning result ≡ average_kind D.Direction.order days hold side }
 {
     Held::new(Average::new(direction, days), side, hold)
 }
 
 // Sells at a target, or with a trail at the fall back from a top beyond it.
-fn profit_at(target: Price, trail: Option<Step>) -> OneOf<Prompt<Level<Rising>>, Trail<Falling>>
-    ensures { profit_means result ≡ profit_kind target trail }
+fn profit_at(target: Price, trail: Option<Step>) -> Profit
+    ensures { ⟦<Profit as Condition>⟧.meaning result ≡ profit_kind target trail }
 {
     match trail {
         None => OneOf::First(level(Rising, target, Side::Sell)),
-        Some(step) => OneOf::Second(Trail::fall_back_sell(
+        Some(step) => OneOf::Second(fall_back_sell(
             target,
             step,
             TrailOptions {
@@ -89,61 +86,79 @@ pub fn stop_or_profit(
     profit: Step,
     trail: Option<Step>,
 ) -> Result<StopOrProfit, MakingFault>
-    ensures { seen exit_means result ≡ stop_or_profit base stop profit trail }
+    ensures { seen ⟦<StopOrProfit as Condition>⟧.meaning result ≡ stop_or_profit base stop profit trail }
 {
-    let Ok(low) = Price::new(Falling::target_of(stop, base)) else {
-        return Err(MakingFault::StopTarget);
-    };
-    let Ok(high) = Price::new(Rising::target_of(profit, base)) else {
-        return Err(MakingFault::ProfitTarget);
-    };
+    let low = Price::new(Falling::target_of(stop, base)).map_err(|_| MakingFault::StopTarget)?;
+    let high = Price::new(Rising::target_of(profit, base)).map_err(|_| MakingFault::ProfitTarget)?;
     Ok(Either::new(level(Falling, low, Side::Sell), profit_at(high, trail)))
 }
 
 // Buys on the rebound from a low.
 pub fn rebound_buy(mark: Price, step: Step, options: TrailOptions) -> Trail<Rising>
-    ensures means { trail_means rising_order rising_target result.terms result.state ≡ rebound mark step options }
+    ensures means { ⟦<Trail<Rising> as Condition>⟧.meaning result ≡ rebound mark step options }
     ensures least { LeastIsLeast rising_order }
 {
-    Trail::rebound_buy(mark, step, options)
+    let terms = TrailTerms {
+        side: Side::Buy,
+        mark,
+        step,
+        options,
+    };
+    Trail::new(Rising, terms)
 }
 
 // Sells on the fall from a top.
 pub fn fall_back_sell(mark: Price, step: Step, options: TrailOptions) -> Trail<Falling>
-    ensures means { trail_means falling_order falling_target result.terms result.state ≡ fall_back mark step options }
+    ensures means { ⟦<Trail<Falling> as Condition>⟧.meaning result ≡ fall_back mark step options }
     ensures least { LeastIsLeast falling_order }
 {
-    Trail::fall_back_sell(mark, step, options)
+    let terms = TrailTerms {
+        side: Side::Sell,
+        mark,
+        step,
+        options,
+    };
+    Trail::new(Falling, terms)
 }
 
 // Buys step by step as the price falls.
 pub fn buy_batch(base: Price, step: Step) -> Batch<Falling>
-    ensures means { batch_means falling_order falling_target result.side result.step result.base ≡ buy_batch base step }
+    ensures means { ⟦<Batch<Falling> as Condition>⟧.meaning result ≡ buy_batch base step }
     ensures latest { FromLatestFire (buy_batch base step) base (batch_answer falling_order falling_target side.Buy step) }
 {
-    Batch::buy(base, step)
+    Batch::new(Falling, Side::Buy, step, base)
 }
 
 // Sells step by step as the price rises.
 pub fn sell_batch(base: Price, step: Step) -> Batch<Rising>
-    ensures means { batch_means rising_order rising_target result.side result.step result.base ≡ sell_batch base step }
+    ensures means { ⟦<Batch<Rising> as Condition>⟧.meaning result ≡ sell_batch base step }
     ensures latest { FromLatestFire (sell_batch base step) base (batch_answer rising_order rising_target side.Sell step) }
 {
-    Batch::sell(base, step)
+    Batch::new(Rising, Side::Sell, step, base)
 }
 
 // A grid in market mode under its range: a fire outside still passes, as the last one.
 pub fn market_grid(range: PriceRange, base: Price, down: Step, up: Step) -> Range<Grid>
-    ensures means { in_range result.range result.switch (grid_means result.below.terms result.below.stage) ≡ market_grid_kind range base down up }
+    ensures means { ⟦<Range<Grid> as Condition>⟧.meaning result ≡ market_grid_kind range base down up }
     ensures latest { FromLatestFire (market_grid range base down up) base (grid_answer (market_terms range down up)) }
 {
-    Range::new(range, true, Grid::market(range, base, down, up))
+    let terms = GridTerms {
+        mode: GridMode::Market(range),
+        down,
+        up,
+    };
+    Range::new(range, true, Grid::new(terms, base))
 }
 
 // A grid in fill mode under its range: what fires outside lapses.
 pub fn fill_grid(range: PriceRange, base: Price, down: Step, up: Step) -> Range<Grid>
-    ensures means { in_range result.range result.switch (grid_means result.below.terms result.below.stage) ≡ fill_grid_kind range base down up }
+    ensures means { ⟦<Range<Grid> as Condition>⟧.meaning result ≡ fill_grid_kind range base down up }
     ensures latest { FromLatestFill (fill_grid base down up) base (grid_answer (fill_terms down up)) }
 {
-    Range::new(range, false, Grid::fill(base, down, up))
+    let terms = GridTerms {
+        mode: GridMode::Fill,
+        down,
+        up,
+    };
+    Range::new(range, false, Grid::new(terms, base))
 }

@@ -20,14 +20,6 @@ impl OrderKind {
     pub fn limit_mark(&self) -> bool
         ensures { result ≡ limit_mark self.now }
     {
-        match self {
-            OrderKind::Level
-            | OrderKind::DayMove
-            | OrderKind::Average
-            | OrderKind::Rebound
-            | OrderKind::FallBack
-            | OrderKind::StopOrProfit => true,
-            OrderKind::Linked | OrderKind::Batch | OrderKind::Grid => false,
-        }
+        !matches!(self, OrderKind::Linked | OrderKind::Batch | OrderKind::Grid)
     }
 }

@@ -1,15 +1,14 @@
 // Rebound buy and fall-back sell: one text over the direction in which the price turns.
 ghost use Rattle.std.specs.Prelude.{◌≡◌, if◌then◌else◌};
 ghost use Rattle.std.specs.Option.{option_or};
-ghost use Rattle.values.specs.Directions.{rising_order, rising_target, falling_order, falling_target};
 ghost use Rattle.conditions.specs.Meaning.{fires_over};
-ghost use Rattle.kinds.specs.Trails.{trail_means, rebound, fall_back, begun, by_target, by_floor};
+ghost use Rattle.kinds.specs.Trails.{trail_means, begun, by_target, by_floor};
 ghost use Rattle.kinds.specs.declared.trail.TrailState.TheVariants as state;
 ghost use Rattle.kinds.specs.Trailing.{trail_repeats, trail_proper};
 
 use conditions::condition::Condition;
 use conditions::event::{Answer, Event, Fire, Side};
-use values::direction::{Direction, Falling, Rising};
+use values::direction::Direction;
 use values::price::Price;
 use values::step::Step;
 
@@ -30,6 +29,7 @@ pub struct TrailTerms {
     pub options: TrailOptions,
 }
 
+// No Option of an extreme: each state is told an event in an arm of its own.
 #[derive(Clone, Copy)]
 pub enum TrailState {
     // no price has come to the mark yet
@@ -46,45 +46,18 @@ pub struct Trail<D> {
     state: TrailState,
 }
 
-impl Trail<Rising> {
-    // Buys when the price rises by a step from the least one since it came down to the mark.
-    pub fn rebound_buy(mark: Price, step: Step, options: TrailOptions) -> Trail<Rising>
-        ensures { trail_means rising_order rising_target result.terms result.state ≡ rebound mark step options }
-    {
-        let terms = TrailTerms {
-            side: Side::Buy,
-            mark,
-            step,
-            options,
-        };
-        Trail {
-            direction: Rising,
-            terms,
-            state: TrailState::Idle,
-        }
-    }
-}
-
-impl Trail<Falling> {
-    // Sells when the price falls by a step from the greatest one since it came up to the mark.
-    pub fn fall_back_sell(mark: Price, step: Step, options: TrailOptions) -> Trail<Falling>
-        ensures { trail_means falling_order falling_target result.terms result.state ≡ fall_back mark step options }
-    {
-        let terms = TrailTerms {
-            side: Side::Sell,
-            mark,
-            step,
-            options,
-        };
-        Trail {
-            direction: Falling,
-            terms,
-            state: TrailState::Idle,
-        }
-    }
-}
-
 impl<D: Direction> Trail<D> {
+    // A trail to whose mark no price has come yet.
+    pub(crate) fn new(direction: D, terms: TrailTerms) -> Trail<D>
+        ensures { ⟦<Trail<D> as Condition>⟧.meaning result ≡ trail_means D.Direction.order D.Direction.target terms state.Idle }
+    {
+        Trail {
+            direction,
+            terms,
+            state: TrailState::Idle,
+        }
+    }
+
     // The watch begins with the first price that has not come past the mark.
     fn begin(&self, price: Price) -> TrailState
         ensures { result ≡ begun D.Direction.order self.now.terms price }
@@ -122,10 +95,10 @@ impl<D: Direction> Trail<D> {
         ensures { result ≡ by_floor D.Direction.order self.now.terms before price }
     {
         let mark = self.terms.mark;
-        if self.terms.options.floor && !D::passes(before, mark) && D::passes(price, mark) {
-            return Some(mark);
-        }
-        None
+        let floored = self.terms.options.floor
+            && !D::passes(before, mark)
+            && D::passes(price, mark);
+        floored.then_some(mark)
     }
 
     // A tick at a price, with the extreme before it and the one with it.
@@ -148,8 +121,7 @@ impl<D: Direction> Condition for Trail<D> {
     ghost proper = { λ c. trail_proper D.Direction.order D.Direction.target c.terms c.state };
 
     fn tell(&mut self, event: Event) -> Answer {
-        let pair = (self.state, event);
-        match pair {
+        match (self.state, event) {
             (TrailState::Idle, Event::Tick(t)) => {
                 self.state = self.begin(t.price);
                 Answer::Wait

@@ -2,7 +2,7 @@
 use crate::help::{day_of_43, fires, percent, plain_day, tick};
 use conditions::condition::Condition;
 use conditions::event::{Answer, Event, Next, Side};
-use kinds::grid::Grid;
+use kinds::grid::{Grid, GridMode, GridTerms};
 use kinds::making;
 use kinds::trail::{Trail, TrailOptions};
 use std::process::Abort;
@@ -102,7 +102,12 @@ fn market_grid_steps_down_and_lapses_outside(rt: HostRuntime) -> Result<(), Fail
 
 #[test]
 fn fill_grid_waits_for_its_settlement(rt: HostRuntime) -> Result<(), Fail> {
-    let mut order = Grid::fill(Price::new(200_000)?, percent(800)?, percent(800)?);
+    let terms = GridTerms {
+        mode: GridMode::Fill,
+        down: percent(800)?,
+        up: percent(800)?,
+    };
+    let mut order = Grid::new(terms, Price::new(200_000)?);
     assert_eq!(rt;
         order.tell(Event::Settlement(Price::new(150_000)?)),
         Answer::Wait

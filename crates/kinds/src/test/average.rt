@@ -19,6 +19,7 @@ pub struct Average<D> {
 }
 
 impl<D> Average<D> {
+    // The contract names the field, since a trigger is said over a direction and D may be any type.
     pub fn new(direction: D, days: AveragingDays) -> Average<D>
         ensures { result.days ≡ days }
     {
@@ -34,7 +35,8 @@ impl<D> Average<D> {
 
     // The average of a sum of closes and a price, which is a price like them.
     fn trigger(&self, sum: u64, price: Price) -> Option<Price>
-        requires { (T (sums (day_count self.now.days - 1) sum)) × ((sum ≢ 0)) }
+        requires closes { T (sums (day_count self.now.days - 1) sum) }
+        requires enough { sum ≢ 0 }
         ensures value { result ≡ priced ((sum + price.value) / day_count self.now.days) }
         ensures found { is_some result ≡ true }
     {
@@ -44,9 +46,9 @@ impl<D> Average<D> {
 }
 
 impl<D: Direction> Test for Average<D> {
-    ghost trigger = { λ a d p. average_yes D.Direction.order a.days d p };
+    ghost trigger = { λ a. average_yes D.Direction.order a.days };
 
-    // A yes always has its trigger price.
+    // A yes always has its trigger price. The sum is 0 where a day has too few closes: `Sums` holds plain sums.
     fn judge(&self, day: &Day, price: Price) -> Option<Price>
         ensures value { result ≡ average_yes D.Direction.order self.now.days day.now price }
         ensures found { is_some result ≡ at_average D.Direction.order self.now.days day.now price }

@@ -21,7 +21,7 @@ pub struct Held<T> {
 
 impl<T: Test> Held<T> {
     pub fn new(test: T, side: Side, hold: Hold) -> Held<T>
-        ensures { held_means (T.Test.trigger result.test) result.hold.seconds result.side result.day result.since ≡ held_means (T.Test.trigger test) hold.seconds side None None }
+        ensures { ⟦<Held<T> as Condition>⟧.meaning result ≡ held_means (T.Test.trigger test) hold.seconds side None None }
     {
         Held {
             test,
@@ -37,31 +37,21 @@ impl<T: Test> Held<T> {
 fn earliest(since: Option<u32>, moment: u32) -> u32
     ensures { result ≡ earliest since moment }
 {
-    match since {
-        Some(start) if start < moment => start,
-        _ => moment,
-    }
+    since.map_or(moment, |start| start.min(moment))
 }
 
 // The same after a tick that is a yes or not.
 fn since_next(since: Option<u32>, moment: u32, passed: bool) -> Option<u32>
     ensures { result ≡ since_next since moment passed }
 {
-    if passed {
-        Some(earliest(since, moment))
-    } else {
-        None
-    }
+    passed.then_some(earliest(since, moment))
 }
 
 // Whether a run of yes ticks began long enough before a moment.
 fn long_enough(hold: Hold, since: Option<u32>, moment: u32) -> bool
     ensures { result ≡ long_enough hold.seconds since moment }
 {
-    match since {
-        Some(start) => start as u64 + hold.seconds() as u64 <= moment as u64,
-        None => false,
-    }
+    since.is_some_and(|start| start as u64 + hold.seconds() as u64 <= moment as u64)
 }
 
 impl<T: Test> Condition for Held<T> {
@@ -78,11 +68,7 @@ impl<T: Test> Condition for Held<T> {
                     let trigger = self.test.judge(day, t.price);
                     let long = long_enough(self.hold, self.since, t.moment);
                     self.since = since_next(self.since, t.moment, trigger.is_some());
-                    if long {
-                        Fire::over_at(self.side, trigger)
-                    } else {
-                        Answer::Wait
-                    }
+                    Fire::over_at(self.side, trigger.filter(|_| long))
                 }
                 None => Answer::Wait,
             },

@@ -15,6 +15,7 @@ pub struct Level<D> {
 }
 
 impl<D> Level<D> {
+    // The contract names the field, since a trigger is said over a direction and D may be any type.
     pub fn new(direction: D, price: Price) -> Level<D>
         ensures { result.price ≡ price }
     {
@@ -23,13 +24,9 @@ impl<D> Level<D> {
 }
 
 impl<D: Direction> Test for Level<D> {
-    ghost trigger = { λ l _ p. level_yes D.Direction.order l.price p };
+    ghost trigger = { λ l. level_yes D.Direction.order l.price };
 
     fn judge(&self, _day: &Day, price: Price) -> Option<Price> {
-        if D::passes(price, self.price) {
-            Some(self.price)
-        } else {
-            None
-        }
+        D::passes(price, self.price).then_some(self.price)
     }
 }

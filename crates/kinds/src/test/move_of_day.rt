@@ -8,7 +8,7 @@ use values::direction::Direction;
 use values::price::Price;
 use values::step::{Percentage, Step};
 
-// How far a day's price has to go.
+// How far a day's price has to go. No Option of a percentage: orders name both ways.
 #[derive(Clone, Copy)]
 pub enum Distance {
     // a percentage from the previous close
@@ -25,6 +25,7 @@ pub struct MoveOfDay<D> {
 }
 
 impl<D> MoveOfDay<D> {
+    // The contract names the field, since a trigger is said over a direction and D may be any type.
     pub fn new(direction: D, distance: Distance) -> MoveOfDay<D>
         ensures { result.distance ≡ distance }
     {
@@ -36,18 +37,14 @@ impl<D> MoveOfDay<D> {
 }
 
 impl<D: Direction> Test for MoveOfDay<D> {
-    ghost trigger = { λ m d p. move_yes D.Direction.order D.Direction.target D.Direction.furthest m.distance d p };
+    ghost trigger = { λ m. move_yes D.Direction.order D.Direction.target D.Direction.furthest m.distance };
 
     fn judge(&self, day: &Day, price: Price) -> Option<Price> {
         match self.distance {
             Distance::Percent(r) => D::reached(Step::Percent(r), day.close, price),
             Distance::Limit => {
                 let limit = D::end_of(day.lower, day.upper);
-                if D::passes(price, limit) {
-                    Some(limit)
-                } else {
-                    None
-                }
+                D::passes(price, limit).then_some(limit)
             }
         }
     }

@@ -1,7 +1,6 @@
 // Fires at the first yes of a test.
 ghost use Rattle.std.specs.Prelude.{◌≡◌, None};
 ghost use Rattle.kinds.specs.Prompts.{prompt_means};
-ghost use Rattle.conditions.specs.Meaning.{fires_over};
 ghost use Rattle.kinds.specs.Prompting.{prompt_repeats, prompt_proper};
 
 use crate::test::Test;
@@ -18,7 +17,7 @@ pub struct Prompt<T> {
 
 impl<T: Test> Prompt<T> {
     pub fn new(test: T, side: Side) -> Prompt<T>
-        ensures { prompt_means (T.Test.trigger result.test) result.side result.day ≡ prompt_means (T.Test.trigger test) side None }
+        ensures { ⟦<Prompt<T> as Condition>⟧.meaning result ≡ prompt_means (T.Test.trigger test) side None }
     {
         Prompt {
             test,
@@ -37,10 +36,11 @@ impl<T: Test> Condition for Prompt<T> {
 
     fn tell(&mut self, event: Event) -> Answer {
         match event {
-            Event::Tick(t) => match &self.day {
-                Some(day) => Fire::over_at(self.side, self.test.judge(day, t.price)),
-                None => Answer::Wait,
-            },
+            Event::Tick(t) => {
+                let day = self.day.as_ref();
+                let trigger = day.and_then(|day| self.test.judge(day, t.price));
+                Fire::over_at(self.side, trigger)
+            }
             Event::Day(day) => {
                 self.day = Some(day);
                 Answer::Wait

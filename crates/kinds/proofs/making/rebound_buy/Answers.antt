@@ -3,5 +3,5 @@ use Rattle.values.specs.Targets.{rising_total}
 use Rattle.kinds.proofs.Leasts.{least_is_least}
 use Rattle.kinds.proofs.making.rebound_buy.Goals as goal
 
-pub returns : goal.returns
-returns c = record { means = c.rebound_buy.ensures; least = least_is_least rising_order rising_total }
+pub returns-clause-least : goal.returns-clause-least
+returns-clause-least c = least_is_least rising_order rising_total

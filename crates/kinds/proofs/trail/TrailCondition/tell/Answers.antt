@@ -1,9 +1,16 @@
-use Rattle.kinds.specs.Trailing.{turn}
+use Rattle.conditions.specs.declared.event.Event.TheVariants as event
+use Rattle.kinds.specs.declared.trail.TrailState.TheVariants as state
+use Rattle.kinds.specs.Trailing.{steps, answers}
 use Rattle.kinds.proofs.trail.TrailCondition.tell.Goals as goal
 
-pub returns-in-Tracking-Tick : goal.returns-in-Tracking-Tick
-returns-in-Tracking-Tick g c =
+pub returns-in-Tracking-Tick-clause-answers : goal.returns-in-Tracking-Tick-clause-answers
+returns-in-Tracking-Tick-clause-answers g c =
     let s = c.args.self.now in
     let w = c.in-Tracking-Tick in
-    let z = turn g.D.Direction.order g.D.Direction.target g.met.D.Direction.total s.terms s.state c.args.event w.extreme c.further-low.result w.t c.judge-fire.result w.is-0 w.is-1 c.further-low.ensures c.judge-fire.ensures in
-    record { answers = z.0; follows = z.1 }
+    simp (c.judge-fire.ensures, c.further-low.ensures, w.is-0, w.is-1) (answers g.D.Direction.order g.D.Direction.target g.met.D.Direction.total s.terms w.extreme w.t)
+
+pub returns-in-Tracking-Tick-clause-follows : goal.returns-in-Tracking-Tick-clause-follows
+returns-in-Tracking-Tick-clause-follows g c =
+    let s = c.args.self.now in
+    let w = c.in-Tracking-Tick in
+    simp (c.further-low.ensures, w.is-0, w.is-1) (steps g.D.Direction.order g.D.Direction.target g.met.D.Direction.total s.terms (state.Tracking w.extreme) (event.Tick w.t))

@@ -1,20 +1,9 @@
-use Rattle.std.proofs.Common.{◌≡◌, ◌+◌, ◌/◌, is_some, ap, ◌∙◌}
-use Rattle.values.specs.Bounds.{least_price, greatest_price}
-use Rattle.values.specs.Making.{checked}
-use Rattle.values.specs.declared.fault.MakingFault.TheVariants as making
-use Rattle.kinds.proofs.Averaging.{mean, mean_some, mean_made}
+use Rattle.std.proofs.Common.{◌+◌, ◌/◌, ◌∙◌}
+use Rattle.values.specs.Days.{day_count}
+use Rattle.kinds.proofs.Averaging.{made_ok}
 use Rattle.kinds.proofs.test.average.Average.trigger.Goals as goal
 
-pub returns : goal.returns
-returns g c =
-    let d = c.args.self.now.days in
-    let s = c.args.sum in
-    let price = c.args.price in
-    let same : (s + c.value.result) / c.count.result ≡ mean d s price c.requires.0 c.requires.1 =
-    (λ i. (s + c.value.ensures i) / c.count.ensures i)
-    in
-    let made = mean_made d s price c.requires.0 c.requires.1 c.new.result (c.new.ensures ∙ ap (checked least_price greatest_price making.Price) same) in
-    record {
-      value = c.ok.ensures.value ∙ made;
-      found = ap is_some (c.ok.ensures.value ∙ made) ∙ mean_some d s price c.requires.0 c.requires.1;
-    }
+pub returns-clause-value : goal.returns-clause-value
+returns-clause-value g c =
+    let mean = (c.args.sum + c.args.price.value) / day_count c.args.self.now.days in
+    c.ok.ensures.value ∙ made_ok mean c.new.result (simp (c.value.ensures, c.count.ensures) at c.new.ensures)

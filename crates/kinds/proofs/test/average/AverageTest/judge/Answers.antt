@@ -1,19 +1,8 @@
-use Rattle.std.proofs.Common.{◌≡◌, ◌+◌, ◌-◌, ◌*◌, ◌/◌, true, ap, ◌∙◌}
-use Rattle.values.specs.Days.{day_count}
-use Rattle.values.specs.Prices.{priced}
-use Rattle.conditions.specs.Closes.{sum_before}
+use Rattle.std.proofs.Common.{◌∙◌}
 use Rattle.kinds.proofs.Averaging.{yes_average}
 use Rattle.kinds.proofs.test.average.AverageTest.judge.Goals as goal
 
-pub returns : goal.returns
-returns g c =
-    let order = g.D.Direction.order in
-    let d = c.args.self.now.days in
-    let day = c.args.day.now in
-    let price = c.args.price in
+pub returns-clause-value : goal.returns-clause-value
+returns-clause-value g c =
     let sum = c.before-sum.ensures.value in
-    let hit : true ≡ order (sum_before d day.sums) ((day_count d - 1) * price.value) =
-    c.if-not-reaches.ensures ∙ (λ i. order (sum i) (c.weighed.ensures i))
-    in
-    let z = yes_average order d day price c.trigger.result hit (λ e. c.if-sum-eq0.false (sum ∙ e)) (c.trigger.ensures.value ∙ ap (λ s. priced ((s + price.value) / day_count d)) sum) c.trigger.ensures.found in
-    record { value = z.0; found = z.1 }
+    yes_average g.D.Direction.order c.args.self.now.days c.args.day.now c.args.price c.trigger.result (simp (sum, c.weighed.ensures) at c.if-not-reaches.ensures) (λ e. c.if-sum-eq0.false (sum ∙ e)) (simp sum at c.trigger.ensures.value)
