@@ -17,6 +17,7 @@ pub enum Outcome {
 }
 
 impl Outcome {
+    // The number by which an outcome is known, as its definition has it.
     pub fn number(&self) -> u8
         ensures { result ≡ outcome_number self.now }
     {
