@@ -58,9 +58,7 @@ impl Market {
         ensures answer { result_err result ≡ first_fault (list_checks (market_of self.old.shares) share closes.now) }
         ensures after { market_of self.new.shares ≡ when_granted result (put share (newly closes.now) (market_of self.old.shares)) (market_of self.old.shares) }
     {
-        let place = place_of(share)?;
-        let s = &mut self.shares[place];
-        s.list(closes)
+        self.shares[place_of(share)?].list(closes)
     }
 
     // Begins a share's new day, and answers it.
