@@ -11,6 +11,7 @@ use Rattle.rules.specs.declared.fault.MarketFault.{MarketFault}
 use Rattle.rules.specs.declared.fault.MarketFault.TheVariants as fault
 use Rattle.rules.specs.declared.opening.Opening.{Opening}
 use Rattle.rules.specs.declared.quote.Quote.{Quote}
+use Rattle.market.specs.declared.share.opening.Limits.{Limits}
 
 -- no share of that number
 abbrev pub number_refusal : ℕ → Option MarketFault
@@ -54,10 +55,10 @@ abbrev pub new_day_checks : Share → Opening → List (Check MarketFault)
 new_day_checks s o = check (no_later s.day o.number) fault.DayNumber ∷ limit_checks o
 
 -- the prices that an opening's numbers are
-pub record Limited (o : Opening) (close upper lower : Price) : Type 0 where
-  pub close_is : priced o.close ≡ Some close
-  pub upper_is : priced o.upper ≡ Some upper
-  pub lower_is : priced o.lower ≡ Some lower
+pub record Limited (o : Opening) (l : Limits) : Type 0 where
+  pub close_is : priced o.close ≡ Some l.close
+  pub upper_is : priced o.upper ≡ Some l.upper
+  pub lower_is : priced o.lower ≡ Some l.lower
 
 -- a newly listed share
 abbrev pub newly : List ℕ → Option Share
@@ -67,9 +68,9 @@ newly closes = Some (listed closes)
 abbrev pub with_close : Share → Price → Share
 with_close s c = record { closes = closes_with s.closes c; day = s.day; latest = s.latest }
 
--- the day that begins by a number, a previous close, an upper and a lower limit
-abbrev pub begun : Share → ℕ → Price → Price → Price → Day
-begun s n c u l = record { number = n; close = c; upper = u; lower = l; sums = sums_of (closes_with s.closes c) }
+-- the day that begins by a number and its prices
+abbrev pub begun : Share → ℕ → Limits → Day
+begun s n l = record { number = n; close = l.close; upper = l.upper; lower = l.lower; sums = sums_of (closes_with s.closes l.close) }
 
 -- on a new day there is no quote yet
 abbrev pub on_its_day : Share → Day → Share

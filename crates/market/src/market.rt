@@ -1,6 +1,7 @@
 // The market, and the calls that change it. A refused call changes nothing.
-ghost use Rattle.std.specs.Prelude.{◌≡◌, ◌≤◌, IfOk, MatchResult, None};
+ghost use Rattle.std.specs.Prelude.{◌≡◌, ◌≤◌, IfOk, None};
 ghost use Rattle.std.specs.Result.{result_err, result_ok};
+ghost use Rattle.rules.specs.Bounds.{greatest_share};
 ghost use Rattle.rules.specs.Checks.{first_fault};
 ghost use Rattle.rules.specs.Market.{put, unlisted, opened, taken, day_of, prices_of, share_checks, list_checks, day_checks, quote_checks};
 ghost use Rattle.market.specs.Asking.{newly, number_refusal, when_granted};
@@ -21,10 +22,10 @@ pub struct Market {
     shares: [Share; SHARES],
 }
 
-// Where a share stands in the table. A call that changes a share lends it from there: what `get_mut` lends is written to without a promise.
+// Where a share of that number stands. Calls that change it lend it from there by index: a proof knows nothing of what `get_mut` has lent.
 fn place_of(number: u8) -> Result<usize, MarketFault>
     ensures answer { result_err result ≡ number_refusal number }
-    ensures place { IfOk result (λ i. (i ≡ number) × (number ≤ 63)) }
+    ensures place { IfOk result (λ i. (i ≡ number) × (number ≤ greatest_share)) }
 {
     let place = usize::from(number);
     if place < SHARES {
@@ -67,9 +68,7 @@ impl Market {
         ensures after { market_of self.new.shares ≡ when_granted result (put opening.share (opened opening (market_of self.old.shares opening.share)) (market_of self.old.shares)) (market_of self.old.shares) }
         ensures day { result_ok result ≡ when_granted result (day_of (market_of self.new.shares opening.share)) None }
     {
-        let place = place_of(opening.share)?;
-        let s = &mut self.shares[place];
-        s.open_day(opening)
+        self.shares[place_of(opening.share)?].open_day(opening)
     }
 
     // Whether the market takes a quote.
@@ -84,8 +83,7 @@ impl Market {
         ensures { market_of self.new.shares ≡ put quote.share (taken quote (market_of self.old.shares quote.share)) (market_of self.old.shares) }
     {
         if let Ok(place) = place_of(quote.share) {
-            let s = &mut self.shares[place];
-            s.keep_quote(quote);
+            self.shares[place].keep_quote(quote);
         }
     }
 

@@ -24,7 +24,7 @@ struct Limits {
 impl Limits {
     fn of(opening: Opening) -> Result<Limits, MarketFault>
         ensures answer { result_err result ≡ first_fault (limit_checks opening) }
-        ensures made { IfOk result (λ l. Limited opening l.close l.upper l.lower) }
+        ensures made { IfOk result (λ l. Limited opening l) }
     {
         let close = price_of(opening.close)?;
         let upper = price_of(opening.upper)?;
@@ -50,6 +50,7 @@ fn is_no_later(number: u16, last: Option<Day>) -> bool
 
 impl Listed {
     // Appends a close and keeps the newest.
+    #[tactic(auto, using(crate::proofs::Rows::row_full))]
     fn append(&mut self, close: Price)
         ensures { held self.new ≡ with_close (held self.old) close }
     {
@@ -65,7 +66,7 @@ impl Listed {
 
     // Begins a day: its previous close is the newest of the closes that it is summed over, and there is no quote yet.
     fn begin(&mut self, number: u16, limits: Limits) -> Day
-        ensures day { result ≡ begun (held self.old) number limits.close limits.upper limits.lower }
+        ensures day { result ≡ begun (held self.old) number limits }
         ensures after { held self.new ≡ on_its_day (held self.old) result }
     {
         self.append(limits.close);
