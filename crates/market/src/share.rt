@@ -15,8 +15,8 @@ const CLOSES_KEPT: usize = 59;
 // What is known of a share that is listed.
 #[derive(Clone, Copy)]
 struct Listed {
-    // the newest closes stand first, the oldest of them at 0; what stands past them is of no use
-    // (a row of its own with a count: the market needs no heap, and a share is copied whole)
+    // the newest closes stand first, the oldest of them at 0; what stands past them is of no use;
+    // an array with a count, since a share keeps its closes itself, without a heap
     closes: [Price; CLOSES_KEPT],
     count: usize,
     day: Option<Day>,

@@ -11,7 +11,7 @@ use rules::fault::MarketFault;
 use values::range::PriceRange;
 
 impl Listed {
-    // Takes a listing's closes, the oldest first, into a row.
+    // Takes a listing's closes, the oldest first, into the share's own row.
     fn of(closes: &[u32]) -> Result<Listed, MarketFault>
         ensures answer { result_err result ≡ first_fault (close_checks closes.now) }
         ensures made { IfOk result (λ l. held l ≡ listed closes.now) }
