@@ -40,7 +40,7 @@ pub struct Slip {
     pub trigger: Price,
     // the price of the tick that fired
     pub market: Price,
-    // the price that the order asks for, or 0 where the outcome leaves it without one
+    // the price that the order asks for, or 0 where the outcome leaves it without one: a slip goes out in plain numbers
     pub price: u32,
     pub quantity: u32,
     pub outcome: Outcome,
