@@ -1,18 +1,8 @@
--- A row of 59 closes: one more is written behind the others, or in place of the oldest.
-use Rattle.std.proofs.Common.{◌≡◌, ℕ, ◌+◌, ◌-◌, ◌<◌, ◌≤◌, List, [], ◌∷◌, ◌++◌, length, take, drop, set, sym, refl, ap, ◌∙◌, arith, length-append, length-drop, length-set, length-take}
-use Rattle.std.proofs.lemmas.List.{take_more_set, take_all, drop-append-le, set-append_right, length_push}
+-- A full row of closes: one more is written in place of the oldest.
+use Rattle.std.proofs.Common.{◌≡◌, ℕ, ◌-◌, ◌<◌, ◌≤◌, List, [], ◌∷◌, ◌++◌, length, take, drop, set, sym, refl, ap, ◌∙◌, arith, length-append, length-drop, length-set, length-take}
+use Rattle.std.proofs.lemmas.List.{take_all, drop-append-le, set-append_right, length_push}
 use Rattle.values.specs.declared.price.Price.{Price}
 use Rattle.rules.specs.Market.{closes_with}
-
-few_kept : (xs : List Price) → length xs ≤ 59 → drop (length xs - 59) xs ≡ xs
-few_kept xs h = let z : length xs - 59 ≡ 0 = omega arith in ap (λ k. drop k xs) z
-
--- there is room
-pub row_room : (cs : List Price) (n : ℕ) (c : Price) → length cs ≡ 59 → n < 59 → take (n + 1) (set cs n c) ≡ closes_with (take n cs) c
-row_room cs n c l h =
-    let i : n < length cs = omega arith in
-    let s : length (take n cs ++ c ∷ []) ≤ 59 = simp (length-append, length-take) (omega arith) in
-    take_more_set cs n c i ∙ sym (few_kept _ s)
 
 one : (cs : List Price) (c : Price) → 0 < length cs → set (take 1 cs) 0 c ≡ c ∷ []
 one [] c h = absurd (omega arith)

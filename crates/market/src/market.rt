@@ -1,10 +1,11 @@
 // The market, and the calls that change it. A refused call changes nothing.
-ghost use Rattle.std.specs.Prelude.{◌≡◌, None};
+ghost use Rattle.std.specs.Prelude.{◌≡◌, ◌≤◌, IfOk, None};
 ghost use Rattle.std.specs.Result.{result_err, result_ok};
+ghost use Rattle.rules.specs.Bounds.{greatest_share};
 ghost use Rattle.rules.specs.Checks.{first_fault};
 ghost use Rattle.rules.specs.Market.{put, unlisted, opened, taken, day_of, prices_of, share_checks, list_checks, day_checks, quote_checks};
-ghost use Rattle.market.specs.Asking.{newly, when_granted};
-ghost use Rattle.market.specs.View.{market_of};
+ghost use Rattle.market.specs.Asking.{newly, number_refusal, when_granted};
+ghost use Rattle.market.specs.View.{market_of, share_view};
 
 use crate::share::Share;
 use conditions::event::Day;
@@ -13,12 +14,25 @@ use rules::opening::Opening;
 use rules::quote::{Levels, Quote};
 
 // Shares are numbered from 0.
-const GREATEST_SHARE: u8 = 63;
+const SHARES: usize = 64;
 
 // The shares by their numbers.
 #[derive(Clone, Copy)]
 pub struct Market {
-    shares: [Share; 64],
+    shares: [Share; SHARES],
+}
+
+// Where a share of that number stands. Calls that change it lend it from there by index: a proof knows nothing of what `get_mut` has lent.
+fn place_of(number: u8) -> Result<usize, MarketFault>
+    ensures answer { result_err result ≡ number_refusal number }
+    ensures place { IfOk result (λ i. (i ≡ number) × (number ≤ greatest_share)) }
+{
+    let place = usize::from(number);
+    if place < SHARES {
+        Ok(place)
+    } else {
+        Err(MarketFault::Share)
+    }
 }
 
 impl Market {
@@ -26,10 +40,18 @@ impl Market {
     pub fn new() -> Market
         ensures { market_of result.shares ≡ unlisted }
     {
-        let share = Share::new();
         Market {
-            shares: [share; 64],
+            shares: [Share::new(); SHARES],
         }
+    }
+
+    fn share(&self, number: u8) -> Result<&Share, MarketFault>
+        ensures answer { result_err result ≡ number_refusal number }
+        ensures view { IfOk result (λ s. share_view s.now ≡ market_of self.now.shares number) }
+    {
+        self.shares
+            .get(usize::from(number))
+            .ok_or(MarketFault::Share)
     }
 
     // Lists a share with its closes, the oldest first.
@@ -37,11 +59,7 @@ impl Market {
         ensures answer { result_err result ≡ first_fault (list_checks (market_of self.old.shares) share closes.now) }
         ensures after { market_of self.new.shares ≡ when_granted result (put share (newly closes.now) (market_of self.old.shares)) (market_of self.old.shares) }
     {
-        if share > GREATEST_SHARE {
-            return Err(MarketFault::Share);
-        }
-        let s = &mut self.shares[share as usize];
-        s.list(closes)
+        self.shares[place_of(share)?].list(closes)
     }
 
     // Begins a share's new day, and answers it.
@@ -50,30 +68,22 @@ impl Market {
         ensures after { market_of self.new.shares ≡ when_granted result (put opening.share (opened opening (market_of self.old.shares opening.share)) (market_of self.old.shares)) (market_of self.old.shares) }
         ensures day { result_ok result ≡ when_granted result (day_of (market_of self.new.shares opening.share)) None }
     {
-        if opening.share > GREATEST_SHARE {
-            return Err(MarketFault::Share);
-        }
-        let s = &mut self.shares[opening.share as usize];
-        s.open_day(opening)
+        self.shares[place_of(opening.share)?].open_day(opening)
     }
 
     // Whether the market takes a quote.
     pub fn check_quote(&self, quote: Quote) -> Result<(), MarketFault>
         ensures { result_err result ≡ first_fault (quote_checks (market_of self.now.shares) quote) }
     {
-        if quote.share > GREATEST_SHARE {
-            return Err(MarketFault::Share);
-        }
-        self.shares[quote.share as usize].check_quote(quote)
+        self.share(quote.share)?.check_quote(quote)
     }
 
     // Makes a quote that was checked its share's latest; where the share is not listed nothing changes.
     pub fn keep_quote(&mut self, quote: Quote)
         ensures { market_of self.new.shares ≡ put quote.share (taken quote (market_of self.old.shares quote.share)) (market_of self.old.shares) }
     {
-        if quote.share <= GREATEST_SHARE {
-            let s = &mut self.shares[quote.share as usize];
-            s.keep_quote(quote);
+        if let Ok(place) = place_of(quote.share) {
+            self.shares[place].keep_quote(quote);
         }
     }
 
@@ -91,28 +101,19 @@ impl Market {
     pub fn check_share(&self, share: u8) -> Result<(), MarketFault>
         ensures { result_err result ≡ first_fault (share_checks (market_of self.now.shares) share) }
     {
-        if share > GREATEST_SHARE {
-            return Err(MarketFault::Share);
-        }
-        self.shares[share as usize].check_listed()
+        self.share(share)?.check_listed()
     }
 
     pub fn day_of(&self, share: u8) -> Option<Day>
         ensures { result ≡ day_of (market_of self.now.shares share) }
     {
-        if share > GREATEST_SHARE {
-            return None;
-        }
-        self.shares[share as usize].day()
+        self.share(share).ok()?.day()
     }
 
     // The prices of the latest quote of the share's day.
     pub fn prices_of(&self, share: u8) -> Option<Levels>
         ensures { result ≡ prices_of (market_of self.now.shares share) }
     {
-        if share > GREATEST_SHARE {
-            return None;
-        }
-        self.shares[share as usize].prices()
+        self.share(share).ok()?.prices()
     }
 }

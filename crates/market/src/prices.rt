@@ -13,13 +13,15 @@ use rules::quote::Levels;
 use values::price::Price;
 
 // The price that a number is.
+#[tactic(auto, using(values::proofs::Pricing::priced_made))]
 pub(crate) fn price_of(number: u32) -> Result<Price, MarketFault>
     ensures { result ≡ ok_or (priced number) (fault.Making making.Price) }
 {
     Ok(Price::new(number)?)
 }
 
-// Writes the closes' prices to the front of a row. A number that is no price stops it, and what it wrote is then of no use.
+// Writes the closes' prices to the front of a row, by index: a proof knows nothing of what a zip of `iter_mut` has written.
+// A number that is no price stops it, and what it wrote is then of no use.
 pub(crate) fn copy_prices(row: &mut [Price], closes: &[u32]) -> Result<(), MarketFault>
     requires { length closes.now ≤ length row.old }
     ensures answer { result_err result ≡ first_fault (map price_check closes.now) }
@@ -51,6 +53,7 @@ fn check_each(levels: &[u32]) -> Result<(), MarketFault>
 }
 
 // The last price, then the levels of both sides.
+#[tactic(auto, using(crate::proofs::Checking::both_sides))]
 pub(crate) fn check_levels(levels: Levels) -> Result<(), MarketFault>
     ensures { result_err result ≡ first_fault (price_check levels.last ∷ map level_check (levels.bids ++ levels.asks)) }
 {

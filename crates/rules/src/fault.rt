@@ -4,59 +4,75 @@ ghost use Rattle.rules.specs.Numbers.{market_number, placing_number};
 ghost use Rattle.rules.specs.declared.fault.MarketFault.TheVariants as market;
 ghost use Rattle.rules.specs.declared.fault.PlacingFault.TheVariants as placing;
 
-use std::fmt;
+use thiserror::Error;
 use values::fault::MakingFault;
 
 // What the market refuses.
-#[derive(Clone, Copy, PartialEq, Eq, Debug)]
+#[derive(Clone, Copy, PartialEq, Eq, Debug, Error)]
 pub enum MarketFault {
-    // no such share
+    #[error("market: share above 63")]
     Share,
+    #[error("market: share listed already")]
     ListedAlready,
+    #[error("market: share not listed")]
     NotListed,
+    #[error("market: more than 59 closes")]
     TooManyCloses,
-    // a day that does not come after the share's last
+    #[error("market: day number not above the last")]
     DayNumber,
-    // a previous close outside the day's limits
+    #[error("market: previous close outside the day's limits")]
     DayLimits,
-    // the share has had no day
+    #[error("market: share without a day")]
     NoDay,
-    // a moment past the day's end, or before the latest quote's
+    #[error("market: moment above 86399 or before the latest quote")]
     Moment,
+    #[error("market: phase above 2")]
     Phase,
+    #[error("market: {0}")]
     Making(MakingFault),
 }
 
 // What the book refuses.
-#[derive(Clone, Copy, PartialEq, Eq, Debug)]
+#[derive(Clone, Copy, PartialEq, Eq, Debug, Error)]
 pub enum PlacingFault {
-    // fewer places for slips than orders that watch the share
+    #[error("placing: fewer slip places than orders watching")]
     Places,
+    #[error("placing: order number 0")]
     Number,
-    // an order of that number is in the book
+    #[error("placing: order number in the book")]
     InBook,
+    #[error("placing: no row free")]
     NoRow,
-    // what is wrong with the watched share
+    #[error("placing: watched share: {0}")]
     Watched(MarketFault),
-    // what is wrong with the traded share
+    #[error("placing: traded share: {0}")]
     Traded(MarketFault),
     // what is wrong with the quote
+    #[error("placing: {0}")]
     Market(MarketFault),
+    #[error("placing: quantity outside 1 to 1000000")]
     Quantity,
+    #[error("placing: total neither 0 nor quantity to 1000000000")]
     Total,
+    #[error("placing: no such price choice or an own price beside it")]
     Choice,
+    #[error("placing: {0}")]
     Making(MakingFault),
     // the condition ends as it is told the day
+    #[error("placing: condition lapses on the day")]
     Lapses,
-    // no order of that number is in the book
+    #[error("placing: no such order")]
     NoOrder,
     // the order is claimed or ended under claim
+    #[error("placing: order under claim")]
     UnderClaim,
+    #[error("placing: void ticket")]
     VoidTicket,
-    // the ticket is another book's, or no order of its number is under claim
+    #[error("placing: ticket of another book or of no claimed order")]
     WrongTicket,
 }
 
+// Written by hand: a derived `From` promises nothing, and callers' clauses name the fault that `?` makes.
 impl From<MakingFault> for MarketFault {
     ghost from_gives = { λ f r. r ≡ market.Making f };
 
@@ -82,7 +98,7 @@ impl From<MakingFault> for PlacingFault {
 }
 
 impl MarketFault {
-    // The number by which a refusal is known.
+    // The number by which a refusal is known, as its definition has it.
     pub fn number(&self) -> u8
         ensures { result ≡ market_number self.now }
     {
@@ -102,7 +118,7 @@ impl MarketFault {
 }
 
 impl PlacingFault {
-    // The number by which a refusal is known.
+    // The number by which a refusal is known, as its definition has it.
     pub fn number(&self) -> u8
         ensures { result ≡ placing_number self.now }
     {
@@ -123,56 +139,6 @@ impl PlacingFault {
             PlacingFault::UnderClaim => 28,
             PlacingFault::VoidTicket => 29,
             PlacingFault::WrongTicket => 30,
-        }
-    }
-}
-
-impl fmt::Display for MarketFault {
-    fn fmt<W: fmt::Write>(&self, f: &mut fmt::Formatter<W>) -> fmt::Result {
-        match self {
-            MarketFault::Share => f.write_str("market: share above 63"),
-            MarketFault::ListedAlready => f.write_str("market: share listed already"),
-            MarketFault::NotListed => f.write_str("market: share not listed"),
-            MarketFault::TooManyCloses => f.write_str("market: more than 59 closes"),
-            MarketFault::DayNumber => f.write_str("market: day number not above the last"),
-            MarketFault::DayLimits => f.write_str(
-                "market: previous close outside the day's limits",
-            ),
-            MarketFault::NoDay => f.write_str("market: share without a day"),
-            MarketFault::Moment => f.write_str(
-                "market: moment above 86399 or before the latest quote",
-            ),
-            MarketFault::Phase => f.write_str("market: phase above 2"),
-            MarketFault::Making(fault) => write!(f, "market: {fault}"),
-        }
-    }
-}
-
-impl fmt::Display for PlacingFault {
-    fn fmt<W: fmt::Write>(&self, f: &mut fmt::Formatter<W>) -> fmt::Result {
-        match self {
-            PlacingFault::Places => f.write_str("placing: fewer slip places than orders watching"),
-            PlacingFault::Number => f.write_str("placing: order number 0"),
-            PlacingFault::InBook => f.write_str("placing: order number in the book"),
-            PlacingFault::NoRow => f.write_str("placing: no row free"),
-            PlacingFault::Watched(fault) => write!(f, "placing: watched share: {fault}"),
-            PlacingFault::Traded(fault) => write!(f, "placing: traded share: {fault}"),
-            PlacingFault::Market(fault) => write!(f, "placing: {fault}"),
-            PlacingFault::Quantity => f.write_str("placing: quantity outside 1 to 1000000"),
-            PlacingFault::Total => f.write_str(
-                "placing: total neither 0 nor quantity to 1000000000",
-            ),
-            PlacingFault::Choice => f.write_str(
-                "placing: no such price choice or an own price beside it",
-            ),
-            PlacingFault::Making(fault) => write!(f, "placing: {fault}"),
-            PlacingFault::Lapses => f.write_str("placing: condition lapses on the day"),
-            PlacingFault::NoOrder => f.write_str("placing: no such order"),
-            PlacingFault::UnderClaim => f.write_str("placing: order under claim"),
-            PlacingFault::VoidTicket => f.write_str("placing: void ticket"),
-            PlacingFault::WrongTicket => f.write_str(
-                "placing: ticket of another book or of no claimed order",
-            ),
         }
     }
 }

@@ -7,6 +7,7 @@ pub struct Levels {
     pub asks: [u32; 5],
 }
 
+// A quote in plain numbers, as it comes in: its phase too is a number that the call checks.
 #[derive(Clone, Copy, PartialEq, Eq, Debug)]
 pub struct Quote {
     pub share: u8,

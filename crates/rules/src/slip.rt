@@ -17,6 +17,7 @@ pub enum Outcome {
 }
 
 impl Outcome {
+    // The number by which an outcome is known, as its definition has it.
     pub fn number(&self) -> u8
         ensures { result ≡ outcome_number self.now }
     {
@@ -39,7 +40,7 @@ pub struct Slip {
     pub trigger: Price,
     // the price of the tick that fired
     pub market: Price,
-    // the price that the order asks for, or 0 where the outcome leaves it without one
+    // the price that the order asks for, or 0 where the outcome leaves it without one: a slip goes out in plain numbers
     pub price: u32,
     pub quantity: u32,
     pub outcome: Outcome,

@@ -14,6 +14,7 @@ pub enum OrderState {
 }
 
 impl OrderState {
+    // The number by which a state is known, as its definition has it.
     pub fn number(&self) -> u8
         ensures { result ≡ state_number self.now }
     {

@@ -19,26 +19,21 @@ const GREATEST_MOMENT: u32 = 86_399;
 fn is_earlier(moment: u32, latest: Option<Quote>) -> bool
     ensures { result ≡ earlier moment latest }
 {
-    match latest {
-        Some(quote) => moment < quote.moment,
-        None => false,
-    }
+    latest.is_some_and(|quote| moment < quote.moment)
 }
 
 impl Share {
     pub fn check_quote(&self, quote: Quote) -> Result<(), MarketFault>
         ensures { result_err result ≡ quote_refusal (share_view self.now) quote }
     {
-        if !self.listed {
-            return Err(MarketFault::NotListed);
-        }
-        if self.day.is_none() {
+        let listed = self.listed()?;
+        if listed.day.is_none() {
             return Err(MarketFault::NoDay);
         }
         if quote.phase > AFTER_HOURS {
             return Err(MarketFault::Phase);
         }
-        if quote.moment > GREATEST_MOMENT || is_earlier(quote.moment, self.latest) {
+        if quote.moment > GREATEST_MOMENT || is_earlier(quote.moment, listed.latest) {
             return Err(MarketFault::Moment);
         }
         check_levels(quote.levels)
@@ -48,6 +43,8 @@ impl Share {
     pub fn keep_quote(&mut self, quote: Quote)
         ensures { share_view self.new ≡ taken quote (share_view self.old) }
     {
-        self.latest = Some(quote);
+        if let Some(listed) = &mut self.listed {
+            listed.latest = Some(quote);
+        }
     }
 }
