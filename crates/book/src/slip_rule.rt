@@ -1,4 +1,4 @@
-// What is written when an order fires.
+// What is written when an order fires. Each function computes the rules' definition of its name, and takes what that takes.
 ghost use Rattle.std.specs.Prelude.{◌≡◌};
 ghost use Rattle.rules.specs.SlipRule.{price_by, asks, exceeds, beyond_limit, held_back, outcome_of, price_under, slip_of};
 
@@ -32,7 +32,7 @@ fn price_by(choice: PriceChoice, own: u32, levels: &Levels) -> u32
     }
 }
 
-// The price that an order asks for, or 0: without a quote of the day there is none.
+// The price that an order asks for; without a quote of the day there is none, which is 0 as in a quote and on a slip.
 pub(crate) fn price_asked(terms: &Terms, prices: Option<Levels>) -> u32
     ensures { result ≡ asks terms.now prices }
 {

@@ -67,6 +67,7 @@ pub(crate) fn tell_tick<C: Condition>(
     ensures written { result.written ≡ length (ticked_slips share limit.value tick (rows_view C.Condition.meaning (market_of market.now.shares) rows.old)) }
     ensures slips { slips.new ≡ ticked_slips share limit.value tick (rows_view C.Condition.meaning (market_of market.now.shares) rows.old) ++ drop result.written slips.old }
 {
+    // rows move while they are told, so the loop goes over places
     let mut stay = 0;
     let mut written = 0;
     for i in 0..rows.len() {
@@ -82,6 +83,7 @@ pub(crate) fn tell_day<C: Condition>(rows: &mut [Row<C>], share: u8, day: Day) -
     ensures within { result ≤ length rows.old }
     ensures table { (mk : Table) → rows_view C.Condition.meaning mk (take result rows.new) ≡ dayed_rows share day (rows_view C.Condition.meaning mk rows.old) }
 {
+    // as in `tell_tick`, over places
     let mut stay = 0;
     for i in 0..rows.len() {
         let stays = rows[i].tell_day(share, day);

@@ -93,9 +93,8 @@ impl<'a, C: Condition> Book<'a, C> {
     {
         let mut taken = 0;
         let mut written = 0;
-        let n = slips.len();
         for quote in quotes {
-            match self.quote(market, *quote, &mut slips[written..n]) {
+            match self.quote(market, *quote, &mut slips[written..]) {
                 Ok(count) => {
                     written += count;
                     taken += 1;
