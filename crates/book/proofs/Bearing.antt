@@ -1,8 +1,8 @@
 -- What a call does to the rows in the market before it, by the rows in the market after it: a row's prices stand in the market.
-use Rattle.std.proofs.Common.{◌≡◌, ℕ, suc, ◌+◌, Bool, true, false, cond, ◌&&◌, eqb, List, [], ◌∷◌, ◌++◌, map, is_some, Some, None, count_by, Option, sym, refl, ap, ◌∙◌, ap₂}
+use Rattle.std.proofs.Common.{◌≡◌, ℕ, ◌+◌, Bool, true, false, cond, ◌&&◌, eqb, List, [], ◌∷◌, ◌++◌, map, is_some, Some, None, count_by, Option, sym, refl, ap, ◌∙◌, ap₂}
 use Rattle.std.specs.List.{flat_map}
 use Rattle.std.proofs.lemmas.List.Sums.{sum_by-cons}
-use Rattle.std.proofs.lemmas.Bool.{false≢true, eqb-true, eqb-false, eq-eqb, ne_eqb}
+use Rattle.std.proofs.lemmas.Bool.{false≢true, eqb-true}
 use Rattle.values.specs.Prices.{priced}
 use Rattle.values.specs.declared.price.Price.{Price}
 use Rattle.conditions.specs.Meaning.{Meaning}
@@ -19,17 +19,11 @@ use Rattle.rules.specs.declared.order.Terms.{Terms}
 use Rattle.rules.specs.declared.quote.Quote.{Quote}
 use Rattle.rules.specs.declared.state.OrderState.{OrderState}
 use Rattle.rules.specs.declared.state.OrderState.TheVariants as state
-use Rattle.book.specs.Turning.{with_machine, quote_tick, ticked_left, ticked_rows, ticked_slips, machine_dayed, dayed_row, dayed_rows, place_of}
-use Rattle.book.specs.View.{machine_in, claimed_in, notes_of, row_view, rows_view}
+use Rattle.book.specs.Turning.{with_machine, quote_tick, ticked_left, ticked_rows, ticked_slips, machine_dayed, dayed_row, dayed_rows}
+use Rattle.book.specs.View.{machine_in, claimed_in, watching_in, watches_now, notes_of, row_view, rows_view}
 use Rattle.book.specs.declared.row.Row.{Row}
+use Rattle.book.proofs.Places.{eqb_same}
 use Rattle.book.proofs.Machines.{cond_same, own_left, heard_tick, heard_nothing, heard_by, quote_prices, quote_state, day_state}
-
-eqb_same : (a b : ℕ) → eqb a b ≡ eqb b a
-eqb_same a b = go (eqb b a) refl
-  where
-    go : (t : Bool) → eqb b a ≡ t → eqb a b ≡ t
-    go true e = eq-eqb a b (sym (eqb-true b a e))
-    go false e = ne_eqb a b (λ p. eqb-false b a e (sym p))
 
 -- lists in a row, from two views of the same elements
 joined_same : {A B D : Type 0} (f g : B → List D) (u v : A → B) → ((x : A) → f (u x) ≡ g (v x)) → (xs : List A) → flat_map f (map u xs) ≡ flat_map g (map v xs)
@@ -74,11 +68,11 @@ view_stands t state.Waiting m n = refl
 view_stands t state.Claimed m n = refl
 view_stands t state.EndedUnderClaim m n = refl
 
-watches_same : (st : OrderState) (m : Meaning) (n n' : Notes) → watches (machine_in st m n) ≡ watches (machine_in st m n')
-watches_same state.Watching m n n' = refl
-watches_same state.Waiting m n n' = refl
-watches_same state.Claimed m n n' = refl
-watches_same state.EndedUnderClaim m n n' = refl
+watches_same : (st : OrderState) (m : Meaning) (n : Notes) → watching_in st ≡ watches (machine_in st m n)
+watches_same state.Watching m n = refl
+watches_same state.Waiting m n = refl
+watches_same state.Claimed m n = refl
+watches_same state.EndedUnderClaim m n = refl
 
 -- the market after a quote, and after a day
 abbrev pub quote_market : Quote → Market → Market
@@ -88,17 +82,13 @@ abbrev pub day_market : Opening → Market → Market
 day_market o mk = put o.share (opened o (mk o.share)) mk
 
 module _ {C : Type 0} (means : C → Meaning) where
-  -- who watches a share, and where an order stands, is the same in any market
-  pub watching_same : (h : ℕ) (mk mk₂ : Market) (xs : List (Row C)) → count_by (watches_share h) (rows_view means mk xs) ≡ count_by (watches_share h) (rows_view means mk₂ xs)
-  watching_same h mk mk₂ [] = refl
-  watching_same h mk mk₂ (r ∷ xs) =
-      sum_by-cons (λ x. cond (watches_share h x) 1 0) (row_view means mk r) (rows_view means mk xs)
-      ∙ ap₂ (λ w n. cond (eqb h r.terms.watched && w) 1 0 + n) (watches_same r.state (means r.condition) (notes_of mk r) (notes_of mk₂ r)) (watching_same h mk mk₂ xs)
-      ∙ sym (sum_by-cons (λ x. cond (watches_share h x) 1 0) (row_view means mk₂ r) (rows_view means mk₂ xs))
-
-  pub place_same : (k : ℕ) (mk mk₂ : Market) (xs : List (Row C)) → place_of k (rows_view means mk xs) ≡ place_of k (rows_view means mk₂ xs)
-  place_same k mk mk₂ [] = refl
-  place_same k mk mk₂ (r ∷ xs) = ap (λ n. cond (eqb k r.terms.number) 0 (suc n)) (place_same k mk mk₂ xs)
+  -- who watches a share, in any market
+  pub watching_seen : (h : ℕ) (mk : Market) (xs : List (Row C)) → count_by (watches_now h) xs ≡ count_by (watches_share h) (rows_view means mk xs)
+  watching_seen h mk [] = refl
+  watching_seen h mk (r ∷ xs) =
+      sum_by-cons (λ x. cond (watches_now h x) 1 0) r xs
+      ∙ ap₂ (λ w n. cond (eqb h r.terms.watched && w) 1 0 + n) (watches_same r.state (means r.condition) (notes_of mk r)) (watching_seen h mk xs)
+      ∙ sym (sum_by-cons (λ x. cond (watches_share h x) 1 0) (row_view means mk r) (rows_view means mk xs))
 
   -- the rows are the same where the prices are
   rows_same : (mk mk₂ : Market) → ((i : ℕ) → prices_of (mk i) ≡ prices_of (mk₂ i)) → (xs : List (Row C)) → rows_view means mk xs ≡ rows_view means mk₂ xs

@@ -57,18 +57,22 @@ pub record Bursting (su₀ su : Setup) (qs : List Quote) (s₀ s : State) (ps ss
 module _ {su₀ su : Setup} {qs : List Quote} {s₀ s : State} {ps ss : List Slip} {k w i : ℕ} (p : Bursting su₀ su qs s₀ s ps ss k w i) (long : length ss ≡ length ps) where
   -- the places after the slips already there
   abbrev tail : List Slip
-  tail = take (length ps - w) (drop w ss)
+  tail = take (length ss - w) (drop w ss)
 
   tail_is : tail ≡ drop w ss
-  tail_is = ap (λ z. take (z - w) (drop w ss)) (sym long) ∙ take_rest ss w
+  tail_is = take_rest ss w
 
   tail_length : length tail ≡ length ps - w
   tail_length = ap length tail_is ∙ length-drop w ss ∙ ap (λ z. z - w) long
 
-  put_is : (ys : List Slip) → put_mid w (length ps - w) ss ys ≡ take w ss ++ ys
+  -- the places, where those after the slips already there hold ys
+  abbrev filled : List Slip → List Slip
+  filled ys = put_mid w (length ss - w) ss ys
+
+  put_is : (ys : List Slip) → filled ys ≡ take w ss ++ ys
   put_is ys =
-      let l : length (drop w ss) ≤ length ps - w = simp length-drop (omega arith) in
-      ap (λ z. take w ss ++ (ys ++ z)) (drop_all (length ps - w) (drop w ss) l) ∙ ap (λ z. take w ss ++ z) (append-nil ys)
+      let l : length (drop w ss) ≤ length ss - w = simp length-drop (omega arith) in
+      ap (λ z. take w ss ++ (ys ++ z)) (drop_all (length ss - w) (drop w ss) l) ∙ ap (λ z. take w ss ++ z) (append-nil ys)
 
   -- the end, where what is left adds nothing
   ended : (s₂ : State) (f : Option PlacingFault) → bursts su₀ s (drop i qs) (length ps - w) ≡ record { state = s₂; count = 0; slips = []; fault = f }
@@ -97,17 +101,17 @@ module _ {su₀ su : Setup} {qs : List Quote} {s₀ s : State} {ps ss : List Sli
 
     -- it is refused
     pub burst_err : (f : PlacingFault) → (s₂, refused (by_book f)) ≡ step su s (single (quoting q (length tail))) → ys ≡ tail
-        → ((s₂, burst_wrote k (take w (put_mid w (length ps - w) ss ys)) (Some f)) ≡ step su₀ s₀ (burst qs (length ps))) × (drop w (put_mid w (length ps - w) ss ys) ≡ drop w ps) × (su₂ ≡ su₀)
+        → ((s₂, burst_wrote k (take w (filled ys)) (Some f)) ≡ step su₀ s₀ (burst qs (length ps))) × (drop w (filled ys) ≡ drop w ps) × (su₂ ≡ su₀)
     burst_err f e y =
         let n : ℕ = length ps - w in
         let b = err_by su₀ s s₂ q n f (first_fault (quote_call_checks s q n)) (e ∙ by_setup) in
-        let v : put_mid w n ss ys ≡ ss = put_is ys ∙ ap (λ z. take w ss ++ z) (y ∙ tail_is) ∙ take-append-drop w ss in
+        let v : filled ys ≡ ss = put_is ys ∙ ap (λ z. take w ss ++ z) (y ∙ tail_is) ∙ take-append-drop w ss in
         let o : bursts su₀ s (drop i qs) n ≡ record { state = s; count = 0; slips = []; fault = Some f } = at_quote ∙ ap (λ x. one_more x s (quote_slips su₀ s q n) further) b.0 in
         (ap₂ (λ a z. (a, burst_wrote k (take w z) (Some f))) b.1 v ∙ ended s (Some f) o, ap (drop w) v ∙ p.rest, same ∙ p.setup)
 
     -- it is taken, and wrote m slips
     pub burst_more : (m : ℕ) → (s₂, wrote (take m ys)) ≡ step su s (single (quoting q (length tail))) → m ≤ length tail → length ys ≡ length tail → drop m ys ≡ drop m tail
-        → Bursting su₀ su₂ qs s₀ s₂ ps (put_mid w (length ps - w) ss ys) (k + 1) (w + m) (i + 1)
+        → Bursting su₀ su₂ qs s₀ s₂ ps (filled ys) (k + 1) (w + m) (i + 1)
     burst_more m e few size back =
         let n : ℕ = length ps - w in
         let f : List Slip = quote_slips su₀ s q n in
@@ -118,8 +122,8 @@ module _ {su₀ su : Setup} {qs : List Quote} {s₀ s : State} {ps ss : List Sli
         let u : length (take w ss ++ take m ys) ≡ w + m = length-append (take w ss) (take m ys) ∙ (omega arith) in
         let c : m ≡ length f = sym l ∙ ap length b.2 in
         let x : length ps - (w + m) ≡ n - length f = omega arith in
-        let t : put_mid w n ss ys ≡ (take w ss ++ take m ys) ++ drop m ys = put_is ys ∙ ap (λ z. take w ss ++ z) (sym (take-append-drop m ys)) ∙ sym (append_assoc (take w ss) (take m ys) (drop m ys)) in
-        let g : take (w + m) (put_mid w n ss ys) ≡ take w ss ++ f = ap (take (w + m)) t ∙ take_at (take w ss ++ take m ys) (drop m ys) (w + m) u ∙ ap (λ z. take w ss ++ z) b.2 in
+        let t : filled ys ≡ (take w ss ++ take m ys) ++ drop m ys = put_is ys ∙ ap (λ z. take w ss ++ z) (sym (take-append-drop m ys)) ∙ sym (append_assoc (take w ss) (take m ys) (drop m ys)) in
+        let g : take (w + m) (filled ys) ≡ take w ss ++ f = ap (take (w + m)) t ∙ take_at (take w ss ++ take m ys) (drop m ys) (w + m) u ∙ ap (λ z. take w ss ++ z) b.2 in
         record {
           within = omega (arith, few, tail_length, v);
           counted = omega (arith, p.counted);

@@ -6,7 +6,7 @@ use Rattle.conditions.specs.declared.event.Answer.{Answer}
 use Rattle.conditions.specs.declared.event.Answer.TheVariants as answer
 use Rattle.conditions.specs.declared.event.Event.TheVariants as event
 use Rattle.conditions.specs.declared.event.Tick.{Tick}
-use Rattle.rules.specs.Book.{standing, watches, watches_share}
+use Rattle.rules.specs.Book.{standing}
 use Rattle.rules.specs.Book.{Row as Standing}
 use Rattle.rules.specs.Machine.{Notes, Left, silent, answered}
 use Rattle.rules.specs.Market.{Market}
@@ -15,7 +15,7 @@ use Rattle.rules.specs.declared.slip.Slip.{Slip}
 use Rattle.rules.specs.declared.state.OrderState.{OrderState}
 use Rattle.rules.specs.declared.state.OrderState.TheVariants as state
 use Rattle.book.specs.Turning.{with_machine, kept, machine_ticked, ticked_left, ticked_row}
-use Rattle.book.specs.View.{machine_in, claimed_in, notes_of, row_view}
+use Rattle.book.specs.View.{machine_in, claimed_in, watching_in, watches_now, notes_of, row_view}
 use Rattle.book.specs.declared.row.Row.{Row}
 
 -- a row by its parts
@@ -26,7 +26,7 @@ row_in t s m n = record { terms = t; machine = machine_in s m n; claimed = claim
 abbrev left_in : Bool → Terms → ℕ → Tick → OrderState → Meaning → Notes → Left
 left_in b t limit k s m n = cond b (machine_ticked t limit k (machine_in s m n)) (silent (machine_in s m n))
 
-unmoved_in : (b : Bool) (s : OrderState) (t : Terms) (limit : ℕ) (k : Tick) (m : Meaning) (n : Notes) → false ≡ b && watches (machine_in s m n)
+unmoved_in : (b : Bool) (s : OrderState) (t : Terms) (limit : ℕ) (k : Tick) (m : Meaning) (n : Notes) → false ≡ b && watching_in s
     → (row_in t s m n ∷ [] ≡ standing (with_machine (row_in t s m n) (left_in b t limit k s m n).machine)) × ([] ≡ (left_in b t limit k s m n).slips)
 unmoved_in true state.Watching t limit k m n e = absurd (clash e)
 unmoved_in true state.Waiting t limit k m n e = (refl, refl)
@@ -37,12 +37,12 @@ unmoved_in false state.Waiting t limit k m n e = (refl, refl)
 unmoved_in false state.Claimed t limit k m n e = (refl, refl)
 unmoved_in false state.EndedUnderClaim t limit k m n e = (refl, refl)
 
-watching_in : (b : Bool) (s : OrderState) (m : Meaning) (n : Notes) → true ≡ b && watches (machine_in s m n) → (b ≡ true) × (s ≡ state.Watching)
-watching_in true state.Watching m n e = (refl, refl)
-watching_in true state.Waiting m n e = absurd (clash (sym e))
-watching_in true state.Claimed m n e = absurd (clash (sym e))
-watching_in true state.EndedUnderClaim m n e = absurd (clash (sym e))
-watching_in false s m n e = absurd (clash (sym e))
+watching_by : (b : Bool) (s : OrderState) → true ≡ b && watching_in s → (b ≡ true) × (s ≡ state.Watching)
+watching_by true state.Watching e = (refl, refl)
+watching_by true state.Waiting e = absurd (clash (sym e))
+watching_by true state.Claimed e = absurd (clash (sym e))
+watching_by true state.EndedUnderClaim e = absurd (clash (sym e))
+watching_by false s e = absurd (clash (sym e))
 
 -- a row of these terms with no claim, which stays or goes
 kept_in : (stays : Bool) (s : OrderState) (t : Terms) (m : Meaning) (n : Notes) → claimed_in s ≡ false
@@ -53,9 +53,8 @@ kept_in true state.Claimed t m n u = cc
 kept_in true state.EndedUnderClaim t m n u = cc
 kept_in false s t m n u = refl
 
-module _ {C : Type 0} (means : C → Meaning) (mk : Market) (share : ℕ) (r : Row C) where
-  pub watching_row : true ≡ watches_share share (row_view means mk r) → (eqb share r.terms.watched ≡ true) × (r.state ≡ state.Watching)
-  watching_row e = watching_in (eqb share r.terms.watched) r.state (means r.condition) (notes_of mk r) e
+pub watching_row : {C : Type 0} (share : ℕ) (r : Row C) → true ≡ watches_now share r → (eqb share r.terms.watched ≡ true) × (r.state ≡ state.Watching)
+watching_row share r e = watching_by (eqb share r.terms.watched) r.state e
 
 module _ {C : Type 0} (means : C → Meaning) (mk : Market) (share limit : ℕ) (k : Tick) (r : Row C) where
   -- the row stays as z, or goes, and these slips are written
@@ -63,21 +62,21 @@ module _ {C : Type 0} (means : C → Meaning) (mk : Market) (share limit : ℕ) 
   Ticked stays z slips = (kept stays (row_view means mk z) ≡ ticked_row share limit k (row_view means mk r)) × (slips ≡ (ticked_left share limit k (row_view means mk r)).slips)
 
   -- a row that does not watch the share
-  pub unmoved : false ≡ watches_share share (row_view means mk r) → Ticked true r []
+  pub unmoved : false ≡ watches_now share r → Ticked true r []
   unmoved e = unmoved_in (eqb share r.terms.watched) r.state r.terms limit k (means r.condition) (notes_of mk r) e
 
   -- a row that watches it, where a is the answer and m the meaning after it
-  left_answered : (a : Answer) (m : Meaning) → true ≡ watches_share share (row_view means mk r) → a ≡ means r.condition [] (event.Tick k) → m ≡ after (means r.condition) (event.Tick k ∷ [])
+  left_answered : (a : Answer) (m : Meaning) → true ≡ watches_now share r → a ≡ means r.condition [] (event.Tick k) → m ≡ after (means r.condition) (event.Tick k ∷ [])
       → answered r.terms limit a m (notes_of mk r) k ≡ ticked_left share limit k (row_view means mk r)
   left_answered a m e ea em =
-      let w = watching_row means mk share r e in
+      let w = watching_row share r e in
       ap (λ x. answered r.terms limit x m (notes_of mk r) k) ea
       ∙ ap (λ x. answered r.terms limit (means r.condition [] (event.Tick k)) x (notes_of mk r) k) em
       ∙ sym
       (ap (λ b. left_in b r.terms limit k r.state (means r.condition) (notes_of mk r)) w.0
       ∙ ap (λ s. left_in true r.terms limit k s (means r.condition) (notes_of mk r)) w.1)
 
-  pub moved : (stays : Bool) (z : Row C) (slips : List Slip) (a : Answer) (m : Meaning) → true ≡ watches_share share (row_view means mk r) → a ≡ means r.condition [] (event.Tick k)
+  pub moved : (stays : Bool) (z : Row C) (slips : List Slip) (a : Answer) (m : Meaning) → true ≡ watches_now share r → a ≡ means r.condition [] (event.Tick k)
       → m ≡ after (means r.condition) (event.Tick k ∷ []) → z.terms ≡ r.terms → claimed_in z.state ≡ false
       → cond stays (row_view means mk z).machine None ≡ (answered r.terms limit a m (notes_of mk r) k).machine → slips ≡ (answered r.terms limit a m (notes_of mk r) k).slips → Ticked stays z slips
   moved stays z slips a m e ea em t u hm hs =
@@ -85,17 +84,17 @@ module _ {C : Type 0} (means : C → Meaning) (mk : Market) (share limit : ℕ) 
         kept_in stays z.state z.terms (means z.condition) (notes_of mk z) u
             ∙ ap (λ x. standing (record { terms = x; machine = cond stays (row_view means mk z).machine None; claimed = false })) t
             ∙ ap (λ x. standing (record { terms = r.terms; machine = x; claimed = false })) (hm ∙ ap (λ x. x.machine) l)
-            ∙ ap (λ s. standing (record { terms = r.terms; machine = (ticked_left share limit k (row_view means mk r)).machine; claimed = claimed_in s })) (sym (watching_row means mk share r e).1),
+            ∙ ap (λ s. standing (record { terms = r.terms; machine = (ticked_left share limit k (row_view means mk r)).machine; claimed = claimed_in s })) (sym (watching_row share r e).1),
         hs ∙ ap (λ x. x.slips) l,
       )
 
   -- the condition waits, and is x after the tick
-  pub waited : (x : C) → true ≡ watches_share share (row_view means mk r) → answer.Wait ≡ means r.condition [] (event.Tick k) → means x ≡ after (means r.condition) (event.Tick k ∷ [])
+  pub waited : (x : C) → true ≡ watches_now share r → answer.Wait ≡ means r.condition [] (event.Tick k) → means x ≡ after (means r.condition) (event.Tick k ∷ [])
       → Ticked true (record { terms = r.terms; state = r.state; sent = r.sent; market = r.market; condition = x }) []
   waited x e ea em =
-      let w = (watching_row means mk share r e).1 in
+      let w = (watching_row share r e).1 in
       moved true (record { terms = r.terms; state = r.state; sent = r.sent; market = r.market; condition = x }) [] answer.Wait (means x) e ea em refl (ap claimed_in w) (ap (λ s. machine_in s (means x) (notes_of mk r)) w) refl
 
   -- it lapses
-  pub lapsed : (x : C) → true ≡ watches_share share (row_view means mk r) → answer.Lapses ≡ means r.condition [] (event.Tick k) → means x ≡ after (means r.condition) (event.Tick k ∷ []) → Ticked false r []
-  lapsed x e ea em = moved false r [] answer.Lapses (means x) e ea em refl (ap claimed_in (watching_row means mk share r e).1) refl refl
+  pub lapsed : (x : C) → true ≡ watches_now share r → answer.Lapses ≡ means r.condition [] (event.Tick k) → means x ≡ after (means r.condition) (event.Tick k ∷ []) → Ticked false r []
+  lapsed x e ea em = moved false r [] answer.Lapses (means x) e ea em refl (ap claimed_in (watching_row share r e).1) refl refl

@@ -1,9 +1,9 @@
 -- The placing of an order: its checks, in the parts in which the code runs them, and the row that it adds.
-use Rattle.std.proofs.Common.{◌≡◌, ℕ, ◌+◌, ◌<◌, ◌≤◌, min, Bool, true, false, cond, eqb, leb, List, [], ◌∷◌, ◌++◌, map, length, take, set, is_some, IsErrAnd, Some, None, Option, Result, sym, refl, ap, ◌∙◌, ap₂, arith}
+use Rattle.std.proofs.Common.{◌≡◌, ℕ, ◌+◌, ◌<◌, ◌≤◌, min, Bool, true, false, cond, leb, List, [], ◌∷◌, ◌++◌, map, length, take, set, is_some, IsErrAnd, Some, None, Option, Result, sym, refl, ap, ◌∙◌, ap₂}
 use Rattle.std.specs.Option.{option_map}
-use Rattle.std.proofs.lemmas.List.{length-map, take_more_set, map-append}
+use Rattle.std.proofs.lemmas.List.{length-map, length-take-le, take_more_set, map-append}
 use Rattle.std.proofs.lemmas.Result.{err_from_is_err_and}
-use Rattle.std.proofs.lemmas.Bool.{eq-eqb, ne_eqb, le-leb, lt-leb, leb-false}
+use Rattle.std.proofs.lemmas.Bool.{eq-eqb, ne_eqb, le-leb, lt-leb}
 use Rattle.conditions.specs.Meaning.{Meaning, after, ends}
 use Rattle.conditions.specs.declared.event.Day.{Day}
 use Rattle.conditions.specs.declared.event.Event.TheVariants as event
@@ -20,47 +20,28 @@ use Rattle.rules.specs.declared.order.Terms.{Terms}
 use Rattle.rules.specs.declared.state.OrderState.TheVariants as state
 use Rattle.market.proofs.Checking.{all_pass, one_stops}
 use Rattle.book.specs.Placing.{free_checks, both_checks, amount_checks, choice_checks}
-use Rattle.book.specs.Turning.{kept, with_machine, machine_dayed, dayed_row, place_of}
+use Rattle.book.specs.Turning.{kept, with_machine, machine_dayed, dayed_row}
 use Rattle.book.specs.View.{done_reply, row_view}
 use Rattle.book.specs.declared.row.Row.{Row as Kept}
-use Rattle.book.proofs.ByNumber.{in_use}
-use Rattle.book.proofs.Places.{row_none, row_some}
 
 -- A number that is free, and a row that is.
 
-is_row : (k : ℕ) (rs : List Row) → place_of k rs < length rs → is_some (row_of k rs) ≡ true
-is_row k [] h = absurd (omega arith)
-is_row k (r ∷ rs) h = ap is_some (row_some k (r ∷ rs) r h)
-
-module _ (su : Setup) (s : State) (k n at : ℕ) (nonzero : k ≡ 0 → ⊥) (long : length s.rows ≡ n) (place : at ≡ place_of k s.rows) where
+module _ (su : Setup) (s : State) (k : ℕ) (nonzero : k ≡ 0 → ⊥) where
   abbrev free_by : Bool → Bool → Option PlacingFault
   free_by taken full = cond taken (Some fault.InBook) (cond full (Some fault.NoRow) None)
 
   free_is : (taken full : Bool) → is_some (row_of k s.rows) ≡ taken → leb (min su.rows greatest_rows) (length s.rows) ≡ full → free_by taken full ≡ first_fault (free_checks su s k)
   free_is taken full a b = ap₂ free_by (sym a) (sym b) ∙ ap (λ z. cond z (Some fault.Number) (free_by (is_some (row_of k s.rows)) (leb (min su.rows greatest_rows) (length s.rows)))) (sym (ne_eqb k 0 nonzero))
 
-  pub in_book : at < n → Some fault.InBook ≡ first_fault (free_checks su s k)
-  in_book h = free_is true _ (is_row k s.rows (omega (arith, long, place, h))) refl
+  pub in_book : is_some (row_of k s.rows) ≡ true → Some fault.InBook ≡ first_fault (free_checks su s k)
+  in_book h = free_is true _ h refl
 
-  vacant : n ≤ at → is_some (row_of k s.rows) ≡ false
-  vacant h = ap is_some (row_none k s.rows (omega (arith, long, place, h)))
+  module _ (n m : ℕ) (long : length s.rows ≡ n) (room : m ≡ min su.rows greatest_rows) (vacant : is_some (row_of k s.rows) ≡ false) where
+    pub no_row : m ≤ n → Some fault.NoRow ≡ first_fault (free_checks su s k)
+    no_row full = free_is false true vacant (ap₂ leb (sym room) long ∙ le-leb m n full)
 
-  pub no_row : (m : ℕ) → m ≡ min su.rows greatest_rows → n ≤ at → m ≤ n → Some fault.NoRow ≡ first_fault (free_checks su s k)
-  no_row m e h full = free_is false true (vacant h) (ap₂ leb (sym e) long ∙ le-leb m n full)
-
-  pub is_free : (m : ℕ) → m ≡ min su.rows greatest_rows → n ≤ at → n < m → None ≡ first_fault (free_checks su s k)
-  is_free m e h room = free_is false false (vacant h) (ap₂ leb (sym e) long ∙ lt-leb m n room)
-
-pub room_left : (su : Setup) (s : State) (k n : ℕ) → length s.rows ≡ n → None ≡ first_fault (free_checks su s k) → n < su.rows
-room_left su s k n long e =
-    let h = leb-false (min su.rows greatest_rows) (length s.rows) (go (eqb k 0) (is_some (row_of k s.rows)) (leb (min su.rows greatest_rows) (length s.rows)) e) in
-    omega (arith, h, long)
-  where
-    go : (zero taken full : Bool) → None ≡ cond zero (Some fault.Number) (cond taken (Some fault.InBook) (cond full (Some fault.NoRow) None)) → full ≡ false
-    go true taken full e = cc
-    go false true full e = cc
-    go false false true e = cc
-    go false false false e = refl
+    pub is_free : n < m → None ≡ first_fault (free_checks su s k)
+    is_free left = free_is false false vacant (ap₂ leb (sym room) long ∙ lt-leb m n left)
 
 -- the row of a new order whose condition was told its day
 abbrev begun : Market → Order → Day → Row
@@ -174,13 +155,9 @@ module _ {C : Type 0} (means : C → Meaning) (mk : Market) (t : Terms) (x : C) 
         go false h = (refl, cc)
 
 -- as many rows are seen as are in use
-pub seen : {X : Type 0} (f : X → Row) (ys : List X) (count n : ℕ) → n ≤ length ys → take n ys ≡ take count ys → length (map f (take count ys)) ≡ n
-seen f ys count n within same = length-map (take count ys) f ∙ in_use ys count n within same
+pub seen : {X : Type 0} (f : X → Row) (ys : List X) (n : ℕ) → n ≤ length ys → length (map f (take n ys)) ≡ n
+seen f ys n within = length-map (take n ys) f ∙ length-take-le n ys within
 
 -- a row put after those in use
-pub one_more : {X : Type 0} (f : X → Row) (ys zs : List X) (count n : ℕ) (y : X) (r : Row) → n < length ys → take n ys ≡ take count ys → zs ≡ set ys n y → f y ≡ r → map f (take (n + 1) zs) ≡ map f (take count ys) ++ r ∷ []
-one_more f ys zs count n y r h same is e =
-    ap (λ z. map f (take (n + 1) z)) is
-    ∙ ap (map f) (take_more_set ys n y h)
-    ∙ map-append f (take n ys) (y ∷ [])
-    ∙ ap₂ (λ a b. map f a ++ b ∷ []) same e
+pub one_more : {X : Type 0} (f : X → Row) (ys : List X) (n : ℕ) (y : X) (r : Row) → n < length ys → f y ≡ r → map f (take (n + 1) (set ys n y)) ≡ map f (take n ys) ++ r ∷ []
+one_more f ys n y r h e = ap (map f) (take_more_set ys n y h) ∙ map-append f (take n ys) (y ∷ []) ∙ ap (λ z. map f (take n ys) ++ z ∷ []) e

@@ -1,8 +1,8 @@
 -- Days and quotes: what a step of the rules is, by what the market says and by the rows and slips that the code leaves.
-use Rattle.std.proofs.Common.{◌≡◌, ℕ, ◌<◌, ◌≤◌, Bool, true, false, cond, not, ◌&&◌, eqb, ltb, List, [], ◌∷◌, ◌++◌, length, take, drop, is_some, Some, None, count_by, Option, sym, refl, ap, ◌∙◌, ap₂, arith}
+use Rattle.std.proofs.Common.{◌≡◌, ℕ, ◌≤◌, Bool, true, false, cond, not, ◌&&◌, eqb, ltb, List, [], ◌∷◌, ◌++◌, length, take, drop, is_some, Some, None, count_by, Option, sym, refl, ap, ◌∙◌, ap₂, arith}
 use Rattle.std.specs.Option.{option_map}
 use Rattle.std.proofs.lemmas.List.{append-nil, take-append-le, take_at, drop_at}
-use Rattle.std.proofs.lemmas.Bool.{eq-eqb, ne_eqb, lt-ltb, le-ltb, ltb-false, and_from, and_left, and_right}
+use Rattle.std.proofs.lemmas.Bool.{eq-eqb, ltb-false}
 use Rattle.values.specs.Prices.{priced}
 use Rattle.values.specs.declared.price.Price.{Price}
 use Rattle.conditions.specs.Meaning.{Meaning}
@@ -22,9 +22,9 @@ use Rattle.rules.specs.declared.opening.Opening.{Opening}
 use Rattle.rules.specs.declared.quote.Quote.{Quote}
 use Rattle.rules.specs.declared.slip.Slip.{Slip}
 use Rattle.book.specs.Turning.{quote_tick, ticked_rows, ticked_slips, dayed_rows}
-use Rattle.book.specs.View.{rows_view}
+use Rattle.book.specs.View.{watches_now, rows_view}
 use Rattle.book.specs.declared.row.Row.{Row}
-use Rattle.book.proofs.Bearing.{quote_market, day_market, watching_same, quote_rows, quote_slips, silent_rows, silent_slips, day_rows}
+use Rattle.book.proofs.Bearing.{quote_market, day_market, watching_seen, quote_rows, quote_slips, silent_rows, silent_slips, day_rows}
 use Rattle.book.proofs.Few.{ticked_slips_few}
 
 -- the checks of a lower layer
@@ -69,16 +69,6 @@ abbrev pub crowds : State → Quote → ℕ → Bool
 crowds s q n = eqb q.phase continuous && ltb n (count_by (watches_share q.share) s.rows)
 
 module _ (s : State) (q : Quote) (n : ℕ) where
-  -- w watch the share
-  pub too_few : (w : ℕ) → q.phase ≡ continuous → w ≡ count_by (watches_share q.share) s.rows → n < w → crowds s q n ≡ true
-  too_few w c e h = and_from (eqb q.phase continuous) _ (eq-eqb q.phase continuous c) (lt-ltb n (count_by (watches_share q.share) s.rows) (omega arith))
-
-  pub enough : (w : ℕ) → w ≡ count_by (watches_share q.share) s.rows → w ≤ n → crowds s q n ≡ false
-  enough w e h = and_right (eqb q.phase continuous) _ (le-ltb n (count_by (watches_share q.share) s.rows) (omega arith))
-
-  pub none_told : (q.phase ≡ continuous → ⊥) → crowds s q n ≡ false
-  none_told c = and_left (eqb q.phase continuous) _ (ne_eqb q.phase continuous c)
-
   by_places : (b : Bool) → None ≡ first_fault (quote_checks s.market q) → crowds s q n ≡ b → first_fault (quote_call_checks s q n) ≡ cond b (Some fault.Places) None
   by_places b pass e =
       all_pass (under fault.Market (quote_checks s.market q)) (check (crowds s q n) fault.Places ∷ []) (ap (option_map fault.Market) pass ∙ sym (under_first fault.Market (quote_checks s.market q)))
@@ -86,6 +76,11 @@ module _ (s : State) (q : Quote) (n : ℕ) where
 
   pub quote_crowded : (su : Setup) → None ≡ first_fault (quote_checks s.market q) → crowds s q n ≡ true → (s, refused (by_book fault.Places)) ≡ step su s (single (quoting q n))
   quote_crowded su pass e = sym (ap (λ x. decided su s (quoting q n) (option_map by_book x)) (by_places true pass e))
+
+-- the same of the rows of a book
+pub crowds_seen : {C : Type 0} (means : C → Meaning) (mk : Market) (q : Quote) (n : ℕ) (xs : List (Row C)) (b : Bool) → b ≡ (eqb q.phase continuous && ltb n (count_by (watches_now q.share) xs))
+    → crowds (record { market = mk; rows = rows_view means mk xs }) q n ≡ b
+crowds_seen means mk q n xs b e = ap (λ w. eqb q.phase continuous && ltb n w) (sym (watching_seen means q.share mk xs)) ∙ sym e
 
 -- a share whose quote the market takes is listed
 known_by : (b x : Bool) (f g : MarketFault) (rest : Option MarketFault) → None ≡ cond b (Some f) (cond (not x) (Some g) rest) → x ≡ true
@@ -123,27 +118,27 @@ module _ {C : Type 0} (means : C → Meaning) (su : Setup) (mk mk₂ : Market) (
       ap (λ m. (record { market = m; rows = rows_view means m xs }, wrote [])) after
       ∙ granted (rows_view means (quote_market q mk) xs) [] (sym (silent_rows means mk q su.limit n known (sym none) xs)) (sym (silent_slips means mk q su.limit n known (sym none) xs))
 
-  -- one that is a tick, told to the rows `told`: ys are those that stay
-  module _ (k : Tick) (some : Some k ≡ quote_tick q) (told : List (Row C)) (same : told ≡ xs) where
-    tick_room : count_by (watches_share q.share) (rows_view means mk₂ told) ≤ n
+  -- one that is a tick: ys are the rows that stay
+  module _ (k : Tick) (some : Some k ≡ quote_tick q) where
+    pub tick_room : count_by (watches_share q.share) (rows_view means mk₂ xs) ≤ n
     tick_room =
         let w : ℕ = count_by (watches_share q.share) (rows_view means mk xs) in
         let c : w ≤ n = ltb-false n w (sym (ap (λ b. b && ltb n w) (tick_continuous q k some)) ∙ free) in
-        omega (arith, c, ap (λ z. count_by (watches_share q.share) (rows_view means mk₂ z)) same, watching_same means q.share mk₂ mk xs)
+        omega (arith, c, watching_seen means q.share mk₂ xs, watching_seen means q.share mk xs)
 
     abbrev written : List Slip
-    written = ticked_slips q.share su.limit k (rows_view means mk₂ told)
+    written = ticked_slips q.share su.limit k (rows_view means mk₂ xs)
 
     tick_count : (w : ℕ) → w ≡ length written → w ≤ n
-    tick_count w e = omega (arith, e, ticked_slips_few q.share su.limit k (rows_view means mk₂ told), tick_room)
+    tick_count w e = omega (arith, e, ticked_slips_few q.share su.limit k (rows_view means mk₂ xs), tick_room)
 
     -- the first w places hold its slips, and those after them what they held
-    pub quote_ticked : (ys : List (Row C)) (w : ℕ) (places rest : List Slip) → rows_view means mk₂ ys ≡ ticked_rows q.share su.limit k (rows_view means mk₂ told) → w ≡ length written → places ≡ written ++ rest
+    pub quote_ticked : (ys : List (Row C)) (w : ℕ) (places rest : List Slip) → rows_view means mk₂ ys ≡ ticked_rows q.share su.limit k (rows_view means mk₂ xs) → w ≡ length written → places ≡ written ++ rest
         → ((record { market = mk₂; rows = rows_view means mk₂ ys }, wrote (take w places)) ≡ step su before (single (quoting q n))) × (w ≤ n) × (drop w places ≡ rest)
     quote_ticked ys w places rest rows long filled =
         let known = quote_known mk q pass in (
           ap₂ (λ a b. (record { market = mk₂; rows = a }, wrote b)) rows (ap (take w) filled ∙ take_at written rest w (sym long))
-              ∙ ap₂ (λ m z. (record { market = m; rows = ticked_rows q.share su.limit k (rows_view means m z) }, wrote (ticked_slips q.share su.limit k (rows_view means m z)))) after same
+              ∙ ap (λ m. (record { market = m; rows = ticked_rows q.share su.limit k (rows_view means m xs) }, wrote (ticked_slips q.share su.limit k (rows_view means m xs)))) after
               ∙ granted _ _ (sym (quote_rows means mk q su.limit n known k (sym some) xs)) (sym (quote_slips means mk q su.limit n known k (sym some) xs)),
           tick_count w long,
           ap (drop w) filled ∙ drop_at written rest w (sym long),

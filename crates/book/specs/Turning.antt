@@ -1,5 +1,5 @@
 -- What is told to one row of a book, in the market as the call leaves it.
-use Rattle.std.specs.Prelude.{ℕ, suc, Bool, false, cond, List, [], ◌∷◌, Some, None, Option, ◌==◌}
+use Rattle.std.specs.Prelude.{ℕ, Bool, false, cond, List, [], ◌∷◌, Some, None, Option, ◌==◌}
 use Rattle.std.specs.Option.{option_map, option_or}
 use Rattle.std.specs.List.{flat_map}
 use Rattle.values.specs.Prices.{priced}
@@ -65,8 +65,3 @@ machine_settled fill (Some s) = settled (option_or fill s.notes.market) s.meanin
 
 abbrev pub settled_row : Option Price → Row → Row
 settled_row fill r = record { terms = r.terms; machine = machine_settled fill r.machine; claimed = false }
-
--- how many rows stand before the one of that number, or all where there is none
-abbrev pub place_of : ℕ → List Row → ℕ
-place_of k [] = 0
-place_of k (r ∷ rs) = cond (k == r.terms.number) 0 (suc (place_of k rs))

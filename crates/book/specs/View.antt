@@ -1,10 +1,10 @@
 -- A book's rows as the rules know them.
-use Rattle.std.specs.Prelude.{ℕ, Bool, true, false, List, map, length, take, Some, None, Ok, Err, Option, Result}
+use Rattle.std.specs.Prelude.{◌≡◌, ℕ, Bool, true, false, ◌&&◌, List, map, length, take, position, Some, None, Ok, Err, Option, Result, ◌==◌}
 use Rattle.values.specs.declared.price.Price.{Price}
 use Rattle.conditions.specs.Meaning.{Meaning}
-use Rattle.rules.specs.Book.{Setup, State}
+use Rattle.rules.specs.Book.{Setup, State, step}
 use Rattle.rules.specs.Book.{Row as Standing}
-use Rattle.rules.specs.Calls.{Reply, done, wrote, burst_wrote, refused, by_market, by_book}
+use Rattle.rules.specs.Calls.{Call, Reply, done, wrote, burst_wrote, refused, by_market, by_book}
 use Rattle.rules.specs.Calls.{Ticket as Right}
 use Rattle.rules.specs.Machine.{Notes, Machine, watching, waiting}
 use Rattle.rules.specs.Market.{Market, prices_of}
@@ -39,6 +39,12 @@ waiting_in state.Waiting = true
 waiting_in state.Claimed = false
 waiting_in state.EndedUnderClaim = false
 
+abbrev pub watching_in : OrderState → Bool
+watching_in state.Watching = true
+watching_in state.Waiting = false
+watching_in state.Claimed = false
+watching_in state.EndedUnderClaim = false
+
 -- the state that a claim leaves
 abbrev pub claimed_state : OrderState → OrderState
 claimed_state state.Watching = state.Watching
@@ -51,6 +57,14 @@ with_state r s = record { terms = r.terms; state = s; sent = r.sent; market = r.
 
 abbrev pub with_notes : {C : Type 0} → Row C → ℕ → Option Price → Row C
 with_notes r sent market = record { terms = r.terms; state = r.state; sent = sent; market = market; condition = r.condition }
+
+-- whether the order in a row watches the share
+abbrev pub watches_now : {C : Type 0} → ℕ → Row C → Bool
+watches_now share r = share == r.terms.watched && watching_in r.state
+
+-- where the order of that number stands among these, if it does
+abbrev pub place_of : {C : Type 0} → ℕ → List (Row C) → Option ℕ
+place_of k rows = position (λ r. r.terms.number == k) rows
 
 -- what a row notes, and the traded share's prices, which stand in the market
 abbrev pub notes_of : {C : Type 0} → Market → Row C → Notes
@@ -68,12 +82,21 @@ row_view means mk r =
 abbrev pub rows_view : {C : Type 0} → (C → Meaning) → Market → List (Row C) → List Standing
 rows_view means mk rows = map (row_view means mk) rows
 
+-- the rows of a book that are in use
+abbrev pub orders_of : {C : Type 0} → Book C → List (Row C)
+orders_of b = take b.count b.rows.now
+
 -- a market and a book
 abbrev pub view : {C : Type 0} → (C → Meaning) → Market → Book C → State
-view means mk b = record { market = mk; rows = rows_view means mk (take b.count b.rows.now) }
+view means mk b = record { market = mk; rows = rows_view means mk (orders_of b) }
 
 abbrev pub setup_of : {C : Type 0} → Book C → Setup
 setup_of b = record { rows = length b.rows.now; limit = b.limit.value; book = b.number }
+
+-- A call carried out by a book, with the market before it and after it: state and answer are those of one step of the rules, and the setup stays.
+pub record Steps {C : Type 0} (means : C → Meaning) (mk mk' : Market) (b b' : Book C) (c : Call) (r : Reply) : Type 0 where
+  pub is_step : (view means mk' b', r) ≡ step (setup_of b) (view means mk b) c
+  pub setup : setup_of b' ≡ setup_of b
 
 -- a book with a market of its own
 abbrev pub desk_view : {C : Type 0} → (C → Meaning) → Desk C → State

@@ -1,13 +1,9 @@
 // A book over a table of rows, and its calls. Each does just what one step of the book's meaning does, whatever the book and the market hold.
-ghost use Rattle.std.specs.Prelude.{◌≡◌, ◌≤◌, min, [], length, take, count_by};
-ghost use Rattle.rules.specs.Book.{watches_share};
+ghost use Rattle.std.specs.Prelude.{◌≡◌, ◌<◌, ◌≤◌, min, [], length, IfSome, count_by};
 ghost use Rattle.rules.specs.Bounds.{greatest_rows};
 ghost use Rattle.rules.specs.Market.{Market as Table};
-ghost use Rattle.book.specs.Turning.{place_of};
-ghost use Rattle.book.specs.View.{view, setup_of};
 
 use crate::row::Row;
-use crate::table::{count_watching, find};
 use conditions::condition::Condition;
 use values::limit::Limit;
 
@@ -25,9 +21,12 @@ pub struct Book<'a, C> {
     count: usize,
     number: u32,
     limit: Limit,
+    ghost within: { count ≤ length rows.now },
 }
 
 impl<'a, C: Condition> Book<'a, C> {
+    ghost use Rattle.book.specs.View.{view, setup_of, orders_of, place_of, watches_now};
+
     // A book without orders.
     pub fn new(rows: &'a mut [Row<C>], number: u32, limit: Limit) -> Book<'a, C>
         ensures empty { (mk : Table) → view C.Condition.meaning mk result ≡ record { market = mk; rows = [] } }
@@ -41,12 +40,11 @@ impl<'a, C: Condition> Book<'a, C> {
         }
     }
 
-    // How many rows are in use.
-    fn used(&self) -> usize
-        ensures within { result ≤ length self.now.rows.now }
-        ensures same { take result self.now.rows.now ≡ take self.now.count self.now.rows.now }
+    // The rows in use.
+    fn orders(&self) -> &[Row<C>]
+        ensures { result.now ≡ orders_of self.now }
     {
-        self.count.min(self.rows.len())
+        &self.rows[..self.count]
     }
 
     // How many rows may be used.
@@ -58,17 +56,19 @@ impl<'a, C: Condition> Book<'a, C> {
 
     // How many orders watch the share.
     fn watchers(&self, share: u8) -> usize
-        ensures { (mk : Table) → result ≡ count_by (watches_share share) (view C.Condition.meaning mk self.now).rows }
+        ensures { result ≡ count_by (watches_now share) (orders_of self.now) }
     {
-        let n = self.used();
-        count_watching(&self.rows[0..n], share)
+        self.orders()
+            .iter()
+            .filter(|row| row.watches(share))
+            .count()
     }
 
-    // How many orders stand before the one of that number, or all where there is none.
-    fn place_of(&self, number: u32) -> usize
-        ensures { (mk : Table) → result ≡ place_of number (view C.Condition.meaning mk self.now).rows }
+    // Where the order of that number stands, if it is in the book.
+    fn place_of(&self, number: u32) -> Option<usize>
+        ensures place { result ≡ place_of number (orders_of self.now) }
+        ensures within { IfSome result (λ at. at < self.now.count) }
     {
-        let n = self.used();
-        find(&self.rows[0..n], number)
+        self.orders().iter().position(|row| row.number() == number)
     }
 }

@@ -2,14 +2,14 @@ ghost use Rattle.std.specs.Prelude.{◌≡◌, true, false, if◌then◌else◌,
 ghost use Rattle.conditions.specs.Meaning.{ends};
 ghost use Rattle.conditions.specs.declared.event.Answer.TheVariants as answer;
 ghost use Rattle.market.specs.View.{market_of};
-ghost use Rattle.rules.specs.Book.{watches_share, standing};
+ghost use Rattle.rules.specs.Book.{standing};
 ghost use Rattle.rules.specs.Machine.{follows, sent_with, answered};
 ghost use Rattle.rules.specs.Market.{Market as Table, prices_of};
 ghost use Rattle.rules.specs.SlipRule.{exceeds};
 ghost use Rattle.rules.specs.declared.slip.Outcome.TheVariants as sort;
 ghost use Rattle.rules.specs.declared.state.OrderState.TheVariants as state;
 ghost use Rattle.book.specs.Turning.{kept, slip_list, ticked_left, ticked_row, dayed_row, settled_row};
-ghost use Rattle.book.specs.View.{claimed_in, waiting_in, claimed_state, with_state, with_notes, notes_of, row_view};
+ghost use Rattle.book.specs.View.{claimed_in, waiting_in, claimed_state, with_state, with_notes, watches_now, notes_of, row_view};
 
 use crate::slip_rule::{outcome_of, slip_of};
 use conditions::condition::Condition;
@@ -47,10 +47,7 @@ fn is_last(answer: Answer) -> bool
 {
     match answer {
         Answer::Wait => false,
-        Answer::Fires(fire) => match fire.next {
-            Next::Over => true,
-            _ => false,
-        },
+        Answer::Fires(fire) => fire.next == Next::Over,
         Answer::Lapses => true,
     }
 }
@@ -102,11 +99,10 @@ impl<C> Row<C> {
     pub(crate) fn is_claimed(&self) -> bool
         ensures { result ≡ claimed_in self.now.state }
     {
-        match self.state {
-            OrderState::Claimed => true,
-            OrderState::EndedUnderClaim => true,
-            _ => false,
-        }
+        matches!(
+            self.state,
+            OrderState::Claimed | OrderState::EndedUnderClaim
+        )
     }
 
     // Puts an order that waits under a claim, and answers whether it did.
@@ -114,13 +110,11 @@ impl<C> Row<C> {
         ensures claimed { result ≡ waiting_in self.old.state }
         ensures row { self.new ≡ with_state self.old (claimed_state self.old.state) }
     {
-        match self.state {
-            OrderState::Waiting => {
-                self.state = OrderState::Claimed;
-                true
-            }
-            _ => false,
+        let waits = self.state == OrderState::Waiting;
+        if waits {
+            self.state = OrderState::Claimed;
         }
+        waits
     }
 
     // Writes down what a slip with this outcome and market price leaves.
@@ -128,10 +122,8 @@ impl<C> Row<C> {
         requires { outcome ≡ sort.Sent → exceeds self.old.terms self.old.sent ≡ false }
         ensures { self.new ≡ with_notes self.old (sent_with self.old.terms outcome self.old.sent) (Some price) }
     {
-        if self.terms.total != 0 {
-            if let Outcome::Sent = outcome {
-                self.sent += self.terms.quantity;
-            }
+        if self.terms.total != 0 && outcome == Outcome::Sent {
+            self.sent += self.terms.quantity;
         }
         self.market = Some(price);
     }
@@ -139,15 +131,9 @@ impl<C> Row<C> {
 
 impl<C: Condition> Row<C> {
     pub(crate) fn watches(&self, share: u8) -> bool
-        ensures { (mk : Table) → result ≡ watches_share share (row_view C.Condition.meaning mk self.now) }
+        ensures { result ≡ watches_now share self.now }
     {
-        if self.terms.watched != share {
-            return false;
-        }
-        match self.state {
-            OrderState::Watching => true,
-            _ => false,
-        }
+        self.terms.watched == share && self.state == OrderState::Watching
     }
 
     // What follows a fire of an order that watched: whether it stays, and whether it waits.
@@ -157,8 +143,7 @@ impl<C: Condition> Row<C> {
         ensures terms { self.new.terms ≡ self.old.terms }
         ensures unclaimed { claimed_in self.new.state ≡ false }
     {
-        let pair = (next, outcome);
-        match pair {
+        match (next, outcome) {
             (Next::Over, _) => false,
             (_, Outcome::Exceeded) => false,
             (Next::GoesOn, _) => true,
@@ -188,7 +173,7 @@ impl<C: Condition> Row<C> {
         }
     }
 
-    // Tells an order that watches the share a tick.
+    // Tells an order that watches the share a tick. What comes with it keeps its own names: they are those of the rules' definitions.
     pub(crate) fn tell_tick(&mut self, share: u8, tick: Tick, limit: Limit, market: &Market) -> Told
         ensures row { kept result.stays (row_view C.Condition.meaning (market_of market.now.shares) self.new) ≡ ticked_row share limit.value tick (row_view C.Condition.meaning (market_of market.now.shares) self.old) }
         ensures slips { slip_list result.slip ≡ (ticked_left share limit.value tick (row_view C.Condition.meaning (market_of market.now.shares) self.old)).slips }
@@ -238,8 +223,7 @@ impl<C: Condition> Row<C> {
     pub(crate) fn settle(&mut self, fill: Option<Price>) -> bool
         ensures { (mk : Table) → kept result (row_view C.Condition.meaning mk self.new) ≡ standing (settled_row fill (row_view C.Condition.meaning mk self.old)) }
     {
-        if let OrderState::EndedUnderClaim = self.state {
-            self.state = OrderState::Watching;
+        if self.state == OrderState::EndedUnderClaim {
             return false;
         }
         self.state = OrderState::Watching;

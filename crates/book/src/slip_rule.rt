@@ -1,4 +1,4 @@
-// What is written when an order fires.
+// What is written when an order fires. Each function computes the rules' definition of its name, and takes what that takes.
 ghost use Rattle.std.specs.Prelude.{◌≡◌};
 ghost use Rattle.rules.specs.SlipRule.{price_by, asks, exceeds, beyond_limit, held_back, outcome_of, price_under, slip_of};
 
@@ -18,7 +18,7 @@ fn price_by(choice: PriceChoice, own: u32, levels: &Levels) -> u32
 {
     match choice {
         PriceChoice::OwnPrice => own,
-        PriceChoice::Last => levels.last,
+        PriceChoice::Last | PriceChoice::HouseDefault => levels.last,
         PriceChoice::Bid1 => levels.bids[0],
         PriceChoice::Bid2 => levels.bids[1],
         PriceChoice::Bid3 => levels.bids[2],
@@ -29,21 +29,17 @@ fn price_by(choice: PriceChoice, own: u32, levels: &Levels) -> u32
         PriceChoice::Ask3 => levels.asks[2],
         PriceChoice::Ask4 => levels.asks[3],
         PriceChoice::Ask5 => levels.asks[4],
-        PriceChoice::HouseDefault => levels.last,
     }
 }
 
-// The price that an order asks for, or 0: without a quote of the day there is none.
+// The price that an order asks for; without a quote of the day there is none, which is 0 as in a quote and on a slip.
 pub(crate) fn price_asked(terms: &Terms, prices: Option<Levels>) -> u32
     ensures { result ≡ asks terms.now prices }
 {
-    let Some(choice) = PriceChoice::of(terms.choice) else {
+    let Ok(choice) = PriceChoice::try_from(terms.choice) else {
         return 0;
     };
-    match prices {
-        Some(levels) => price_by(choice, terms.own_price, &levels),
-        None => 0,
-    }
+    prices.map_or(0, |levels| price_by(choice, terms.own_price, &levels))
 }
 
 // Whether a total is set, and what was sent before with this quantity exceeds it.
@@ -100,10 +96,8 @@ fn price_under(outcome: Outcome, price: u32) -> u32
     ensures { result ≡ price_under outcome price }
 {
     match outcome {
-        Outcome::Sent => price,
-        Outcome::Withheld => price,
-        Outcome::Unpriced => 0,
-        Outcome::Exceeded => 0,
+        Outcome::Sent | Outcome::Withheld => price,
+        Outcome::Unpriced | Outcome::Exceeded => 0,
     }
 }
 

@@ -1,6 +1,7 @@
 ghost use Rattle.std.specs.Prelude.{◌≡◌, true, false};
 
-// The right to settle the order that a claim names, unless it is void. It may be let go only when it is spent.
+// The right to settle the order that a claim names, unless it is void. It may be let go only when it is spent: a rule of the
+// project, which `drop` asks of the mark `spent`.
 pub struct Ticket {
     void: bool,
     book: u32,

@@ -1,5 +1,9 @@
 ghost use Rattle.std.specs.Prelude.{◌≡◌};
+ghost use Rattle.std.specs.Option.{ok_or};
 ghost use Rattle.rules.specs.Numbers.{choice_number, choice_of};
+ghost use Rattle.rules.specs.declared.fault.PlacingFault.TheVariants as fault;
+
+use crate::fault::PlacingFault;
 
 // Where an order's price comes from: its own, or the traded share's prices as its slip is written.
 #[derive(Clone, Copy, PartialEq, Eq, Debug)]
@@ -40,26 +44,30 @@ impl PriceChoice {
             PriceChoice::HouseDefault => 12,
         }
     }
+}
 
-    // The choice that a number stands for, if it stands for one.
-    pub fn of(number: u8) -> Option<PriceChoice>
-        ensures { result ≡ choice_of number }
-    {
+// The choice that a number stands for; a number that stands for none is refused.
+impl TryFrom<u8> for PriceChoice {
+    type Error = PlacingFault;
+
+    ghost try_from_gives = { λ number r. r ≡ ok_or (choice_of number) fault.Choice };
+
+    fn try_from(number: u8) -> Result<PriceChoice, PlacingFault> {
         match number {
-            0 => Some(PriceChoice::OwnPrice),
-            1 => Some(PriceChoice::Last),
-            2 => Some(PriceChoice::Bid1),
-            3 => Some(PriceChoice::Bid2),
-            4 => Some(PriceChoice::Bid3),
-            5 => Some(PriceChoice::Bid4),
-            6 => Some(PriceChoice::Bid5),
-            7 => Some(PriceChoice::Ask1),
-            8 => Some(PriceChoice::Ask2),
-            9 => Some(PriceChoice::Ask3),
-            10 => Some(PriceChoice::Ask4),
-            11 => Some(PriceChoice::Ask5),
-            12 => Some(PriceChoice::HouseDefault),
-            _ => None,
+            0 => Ok(PriceChoice::OwnPrice),
+            1 => Ok(PriceChoice::Last),
+            2 => Ok(PriceChoice::Bid1),
+            3 => Ok(PriceChoice::Bid2),
+            4 => Ok(PriceChoice::Bid3),
+            5 => Ok(PriceChoice::Bid4),
+            6 => Ok(PriceChoice::Bid5),
+            7 => Ok(PriceChoice::Ask1),
+            8 => Ok(PriceChoice::Ask2),
+            9 => Ok(PriceChoice::Ask3),
+            10 => Ok(PriceChoice::Ask4),
+            11 => Ok(PriceChoice::Ask5),
+            12 => Ok(PriceChoice::HouseDefault),
+            _ => Err(PlacingFault::Choice),
         }
     }
 }

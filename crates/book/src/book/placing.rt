@@ -1,17 +1,15 @@
 // Placing an order.
-ghost use Rattle.std.specs.Prelude.{◌≡◌, IfOk, Some};
+ghost use Rattle.std.specs.Prelude.{◌≡◌, ◌<◌, length, IfOk, OnOk, Some};
 ghost use Rattle.std.specs.Result.{result_err, result_ok};
 ghost use Rattle.market.specs.View.{market_of};
-ghost use Rattle.rules.specs.Book.{step};
 ghost use Rattle.rules.specs.Calls.{placing, single};
 ghost use Rattle.rules.specs.Checks.{first_fault};
 ghost use Rattle.rules.specs.Market.{Market as Table, day_of};
 ghost use Rattle.book.specs.Placing.{free_checks, both_checks, amount_checks, choice_checks};
-ghost use Rattle.book.specs.View.{view, setup_of, done_reply};
+ghost use Rattle.book.specs.View.{view, setup_of, Steps, done_reply};
 
 use crate::book::Book;
 use crate::row::Row;
-use crate::table::put;
 use conditions::condition::Condition;
 use conditions::event::Day;
 use market::market::Market;
@@ -28,16 +26,15 @@ fn check_shares(market: &Market, terms: &Terms) -> Result<Day, PlacingFault>
     ensures answer { result_err result ≡ first_fault (both_checks (market_of market.now.shares) terms.now) }
     ensures day { IfOk result (λ d. day_of (market_of market.now.shares terms.now.watched) ≡ Some d) }
 {
-    if let Err(fault) = market.check_share(terms.watched) {
-        return Err(PlacingFault::Watched(fault));
-    }
-    if let Err(fault) = market.check_share(terms.traded) {
-        return Err(PlacingFault::Traded(fault));
-    }
-    match market.day_of(terms.watched) {
-        Some(day) => Ok(day),
-        None => Err(PlacingFault::Watched(MarketFault::NoDay)),
-    }
+    market
+        .check_share(terms.watched)
+        .map_err(PlacingFault::Watched)?;
+    market
+        .check_share(terms.traded)
+        .map_err(PlacingFault::Traded)?;
+    market
+        .day_of(terms.watched)
+        .ok_or(PlacingFault::Watched(MarketFault::NoDay))
 }
 
 fn check_amounts(terms: &Terms) -> Result<(), PlacingFault>
@@ -56,34 +53,28 @@ fn check_amounts(terms: &Terms) -> Result<(), PlacingFault>
 fn check_choice(terms: &Terms) -> Result<(), PlacingFault>
     ensures { result_err result ≡ first_fault (choice_checks terms.now) }
 {
-    match PriceChoice::of(terms.choice) {
-        None => Err(PlacingFault::Choice),
-        Some(PriceChoice::OwnPrice) => {
-            Price::new(terms.own_price)?;
-            Ok(())
-        }
-        Some(_) => {
-            if terms.own_price != 0 {
-                return Err(PlacingFault::Choice);
-            }
-            Ok(())
-        }
+    let choice = PriceChoice::try_from(terms.choice)?;
+    if choice == PriceChoice::OwnPrice {
+        Price::new(terms.own_price)?;
+    } else if terms.own_price != 0 {
+        return Err(PlacingFault::Choice);
     }
+    Ok(())
 }
 
 impl<'a, C: Condition + Drop> Book<'a, C> {
     // The number is one, is free, and so is a row.
     fn check_free(&self, number: u32) -> Result<(), PlacingFault>
-        ensures { (mk : Table) → result_err result ≡ first_fault (free_checks (setup_of self.now) (view C.Condition.meaning mk self.now) number) }
+        ensures answer { (mk : Table) → result_err result ≡ first_fault (free_checks (setup_of self.now) (view C.Condition.meaning mk self.now) number) }
+        ensures row { OnOk result (self.now.count < length self.now.rows.now) }
     {
         if number == 0 {
             return Err(PlacingFault::Number);
         }
-        let n = self.used();
-        if self.place_of(number) < n {
+        if self.place_of(number).is_some() {
             return Err(PlacingFault::InBook);
         }
-        if n >= self.room() {
+        if self.count >= self.room() {
             return Err(PlacingFault::NoRow);
         }
         Ok(())
@@ -91,8 +82,7 @@ impl<'a, C: Condition + Drop> Book<'a, C> {
 
     // Places an order with its condition, which is told the watched share's day. A condition that is refused is let go.
     pub fn place(&mut self, market: &Market, terms: Terms, condition: C) -> Result<(), PlacingFault>
-        ensures step { (view C.Condition.meaning (market_of market.now.shares) self.new, done_reply result) ≡ step (setup_of self.old) (view C.Condition.meaning (market_of market.now.shares) self.old) (single (placing (record { terms = terms; meaning = C.Condition.meaning condition }))) }
-        ensures setup { setup_of self.new ≡ setup_of self.old }
+        ensures { Steps C.Condition.meaning (market_of market.now.shares) (market_of market.now.shares) self.old self.new (single (placing (record { terms = terms; meaning = C.Condition.meaning condition }))) (done_reply result) }
     {
         self.check_free(terms.number)?;
         let day = check_shares(market, &terms)?;
@@ -102,9 +92,8 @@ impl<'a, C: Condition + Drop> Book<'a, C> {
         if !row.tell_day(terms.watched, day) {
             return Err(PlacingFault::Lapses);
         }
-        let n = self.used();
-        put(self.rows, n, row);
-        self.count = n + 1;
+        self.rows[self.count] = row;
+        self.count += 1;
         Ok(())
     }
 }

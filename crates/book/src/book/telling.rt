@@ -1,10 +1,10 @@
 // Days and quotes, which are for every order.
-ghost use Rattle.std.specs.Prelude.{◌≡◌, ◌≤◌, length, drop};
+ghost use Rattle.std.specs.Prelude.{◌≡◌, ◌≤◌, ◌&&◌, length, drop, count_by, ◌==◌, nat_lt};
 ghost use Rattle.market.specs.View.{market_of};
-ghost use Rattle.rules.specs.Book.{step};
+ghost use Rattle.rules.specs.Bounds.{continuous};
 ghost use Rattle.rules.specs.Calls as call;
 ghost use Rattle.book.specs.Turning.{quote_tick};
-ghost use Rattle.book.specs.View.{view, setup_of, day_reply, quote_reply, count_in, burst_reply};
+ghost use Rattle.book.specs.View.{orders_of, watches_now, Steps, day_reply, quote_reply, count_in, burst_reply};
 
 use crate::book::Book;
 use crate::burst::Burst;
@@ -28,25 +28,28 @@ fn tick_of(quote: &Quote) -> Option<Tick>
     if quote.phase != CONTINUOUS {
         return None;
     }
-    match Price::new(quote.levels.last) {
-        Ok(price) => Some(Tick {
-            moment: quote.moment,
-            price,
-        }),
-        Err(_) => None,
-    }
+    let price = Price::new(quote.levels.last).ok()?;
+    Some(Tick {
+        moment: quote.moment,
+        price,
+    })
 }
 
 impl<'a, C: Condition> Book<'a, C> {
     // Begins a share's new day: the orders that watch it are told.
     pub fn open_day(&mut self, market: &mut Market, opening: Opening) -> Result<(), MarketFault>
-        ensures step { (view C.Condition.meaning (market_of market.new.shares) self.new, day_reply result) ≡ step (setup_of self.old) (view C.Condition.meaning (market_of market.old.shares) self.old) (call.single (call.opening opening)) }
-        ensures setup { setup_of self.new ≡ setup_of self.old }
+        ensures { Steps C.Condition.meaning (market_of market.old.shares) (market_of market.new.shares) self.old self.new (call.single (call.opening opening)) (day_reply result) }
     {
         let day = market.open_day(opening)?;
-        let n = self.used();
-        self.count = tell_day(&mut self.rows[0..n], opening.share, day);
+        self.count = tell_day(&mut self.rows[..self.count], opening.share, day);
         Ok(())
+    }
+
+    // Whether more orders would be told the quote than there are places for their slips.
+    fn crowds(&self, quote: &Quote, places: usize) -> bool
+        ensures { result ≡ (quote.now.phase == continuous && nat_lt places (count_by (watches_now quote.now.share) (orders_of self.now))) }
+    {
+        quote.phase == CONTINUOUS && places < self.watchers(quote.share)
     }
 
     // Takes a quote: in continuous trading the orders that watch the share are told its tick. The slips fill from the first place,
@@ -57,23 +60,21 @@ impl<'a, C: Condition> Book<'a, C> {
         quote: Quote,
         slips: &mut [Slip],
     ) -> Result<usize, PlacingFault>
-        ensures step { (view C.Condition.meaning (market_of market.new.shares) self.new, quote_reply result slips.new) ≡ step (setup_of self.old) (view C.Condition.meaning (market_of market.old.shares) self.old) (call.single (call.quoting quote (length slips.old))) }
+        ensures step { Steps C.Condition.meaning (market_of market.old.shares) (market_of market.new.shares) self.old self.new (call.single (call.quoting quote (length slips.old))) (quote_reply result slips.new) }
         ensures count { count_in result ≤ length slips.old }
         ensures rest { drop (count_in result) slips.new ≡ drop (count_in result) slips.old }
-        ensures setup { setup_of self.new ≡ setup_of self.old }
     {
         market.check_quote(quote)?;
-        if quote.phase == CONTINUOUS && slips.len() < self.watchers(quote.share) {
+        if self.crowds(&quote, slips.len()) {
             return Err(PlacingFault::Places);
         }
         market.keep_quote(quote);
         let Some(tick) = tick_of(&quote) else {
             return Ok(0);
         };
-        let n = self.used();
         let limit = self.limit;
         let quoted = tell_tick(
-            &mut self.rows[0..n],
+            &mut self.rows[..self.count],
             quote.share,
             tick,
             limit,
@@ -86,16 +87,14 @@ impl<'a, C: Condition> Book<'a, C> {
 
     // Takes quotes in turn, each writing into the places after the slips already there, and stops before the first that is refused.
     pub fn burst(&mut self, market: &mut Market, quotes: &[Quote], slips: &mut [Slip]) -> Burst
-        ensures step { (view C.Condition.meaning (market_of market.new.shares) self.new, burst_reply result slips.new) ≡ step (setup_of self.old) (view C.Condition.meaning (market_of market.old.shares) self.old) (call.burst quotes.now (length slips.old)) }
+        ensures step { Steps C.Condition.meaning (market_of market.old.shares) (market_of market.new.shares) self.old self.new (call.burst quotes.now (length slips.old)) (burst_reply result slips.new) }
         ensures count { result.written ≤ length slips.old }
         ensures rest { drop result.written slips.new ≡ drop result.written slips.old }
-        ensures setup { setup_of self.new ≡ setup_of self.old }
     {
         let mut taken = 0;
         let mut written = 0;
-        let n = slips.len();
         for quote in quotes {
-            match self.quote(market, *quote, &mut slips[written..n]) {
+            match self.quote(market, *quote, &mut slips[written..]) {
                 Ok(count) => {
                     written += count;
                     taken += 1;

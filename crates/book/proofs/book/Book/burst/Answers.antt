@@ -8,16 +8,16 @@ returns-in-Err g c =
     let p = c.loop-quote.invariant in
     let s = view g.C.Condition.meaning (market_of c.quote.new.market.shares) c.quote.new.self in
     let told = c.in-Err.ensures in
-    let d = burst_err p c.loop-quote.auto.slips _ c.loop-quote-test.true (setup_of c.quote.new.self) s c.quote.new.slips told.setup c.in-Err.fault told.step told.rest in
-    record { step = d.0; count = p.within; rest = d.1; setup = d.2 }
+    let d = burst_err p c.loop-quote.auto.slips _ c.loop-quote-test.true (setup_of c.quote.new.self) s c.quote.new.slips told.step.setup c.in-Err.fault told.step.is_step told.rest in
+    record { step = record { is_step = d.0; setup = d.2 }; count = p.within; rest = d.1 }
 
 pub loop-quote-preserved : goal.loop-quote-preserved
 loop-quote-preserved g c =
     let s = view g.C.Condition.meaning (market_of c.quote.new.market.shares) c.quote.new.self in
     let told = c.in-Ok.ensures in
-    burst_more c.loop-quote.invariant c.loop-quote.auto.slips _ c.loop-quote-test.true (setup_of c.quote.new.self) s c.quote.new.slips told.setup c.in-Ok.count told.step told.count c.quote.auto.slips told.rest
+    burst_more c.loop-quote.invariant c.loop-quote.auto.slips _ c.loop-quote-test.true (setup_of c.quote.new.self) s c.quote.new.slips told.step.setup c.in-Ok.count told.step.is_step told.count c.quote.auto.slips told.rest
 
 pub returns : goal.returns
 returns g c =
     let p = c.loop-quote.invariant in
-    record { step = burst_all p c.loop-quote.auto.slips c.loop-quote-test.false; count = p.within; rest = p.rest; setup = p.setup }
+    record { step = record { is_step = burst_all p c.loop-quote.auto.slips c.loop-quote-test.false; setup = p.setup }; count = p.within; rest = p.rest }

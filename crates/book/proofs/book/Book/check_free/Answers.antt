@@ -1,42 +1,28 @@
-use Rattle.book.specs.View.{row_view, view, setup_of}
+use Rattle.std.proofs.Common.{sym, ap, ◌∙◌, is_some}
+use Rattle.book.specs.View.{row_view, view, setup_of, orders_of}
 use Rattle.book.proofs.Placed.{in_book, no_row, is_free, seen}
+use Rattle.book.proofs.Places.{borne}
 use Rattle.book.proofs.book.Book.check_free.Goals as goal
 
-pub returns-then-place_of-n : goal.returns-then-place_of-n
-returns-then-place_of-n g c mk =
+pub returns-then-is_some-clause-answer : goal.returns-then-is_some-clause-answer
+returns-then-is_some-clause-answer g c mk =
     let b = c.args.self.now in
-    let m = g.C.Condition.meaning in
-    let u = c.used-n.ensures in
-    let n = c.used-n.result in
-    in_book (setup_of b) (view m mk b) c.args.number n c.place_of.result c.if-number-eq0.false
-    (seen (row_view m mk) b.rows.now b.count n u.within u.same)
-    (c.place_of.ensures mk)
-    c.if-place_of-n.true
+    let f = row_view g.C.Condition.meaning mk in
+    in_book (setup_of b) (view g.C.Condition.meaning mk b) c.args.number c.if-number-eq0.false
+    (borne f c.args.number (orders_of b) ∙ ap is_some (sym c.place_of.ensures.place) ∙ sym c.if-is_some.ensures)
 
-pub returns-then-n-room : goal.returns-then-n-room
-returns-then-n-room g c mk =
+pub returns-then-self-room-clause-answer : goal.returns-then-self-room-clause-answer
+returns-then-self-room-clause-answer g c mk =
     let b = c.args.self.now in
-    let m = g.C.Condition.meaning in
-    let u = c.used-n.ensures in
-    let n = c.used-n.result in
-    no_row (setup_of b) (view m mk b) c.args.number n c.place_of.result c.if-number-eq0.false
-    (seen (row_view m mk) b.rows.now b.count n u.within u.same)
-    (c.place_of.ensures mk)
-    c.room.result
-    c.room.ensures
-    c.if-place_of-n.false
-    c.if-n-room.true
+    let f = row_view g.C.Condition.meaning mk in
+    no_row (setup_of b) (view g.C.Condition.meaning mk b) c.args.number c.if-number-eq0.false b.count c.room.result (seen f b.rows.now b.count b.within) c.room.ensures
+    (borne f c.args.number (orders_of b) ∙ ap is_some (sym c.place_of.ensures.place) ∙ sym c.if-is_some.ensures)
+    c.if-self-room.true
 
-pub returns : goal.returns
-returns g c mk =
+pub returns-clause-answer : goal.returns-clause-answer
+returns-clause-answer g c mk =
     let b = c.args.self.now in
-    let m = g.C.Condition.meaning in
-    let u = c.used-n.ensures in
-    let n = c.used-n.result in
-    is_free (setup_of b) (view m mk b) c.args.number n c.place_of.result c.if-number-eq0.false
-    (seen (row_view m mk) b.rows.now b.count n u.within u.same)
-    (c.place_of.ensures mk)
-    c.room.result
-    c.room.ensures
-    c.if-place_of-n.false
-    c.if-n-room.false
+    let f = row_view g.C.Condition.meaning mk in
+    is_free (setup_of b) (view g.C.Condition.meaning mk b) c.args.number c.if-number-eq0.false b.count c.room.result (seen f b.rows.now b.count b.within) c.room.ensures
+    (borne f c.args.number (orders_of b) ∙ ap is_some (sym c.place_of.ensures.place) ∙ sym c.if-is_some.ensures)
+    c.if-self-room.false

@@ -15,7 +15,7 @@ returns-then-is_void g c =
     let b = c.args.self.now in
     let m = g.C.Condition.meaning in
     let void = sym (ap (λ t. t.void) c.spend.ensures) ∙ sym c.is_void.ensures ∙ c.if-is_void.true in
-    record { step = λ mk. settle_void (setup_of b) (view m mk b) (right_of c.args.ticket) c.args.fill void; setup = refl }
+    λ mk. record { is_step = settle_void (setup_of b) (view m mk b) (right_of c.args.ticket) c.args.fill void; setup = refl }
 
 pub returns-then-book-self : goal.returns-then-book-self
 returns-then-book-self g c =
@@ -23,7 +23,7 @@ returns-then-book-self g c =
     let m = g.C.Condition.meaning in
     let void = sym (ap (λ t. t.void) c.spend.ensures) ∙ sym c.is_void.ensures ∙ c.if-is_void.false in
     let other = ne_eqb c.args.ticket.book b.number (λ e. c.if-book-self.true (c.book.ensures ∙ ap (λ t. t.book) c.spend.ensures ∙ e)) in
-    record { step = λ mk. settle_elsewhere (setup_of b) (view m mk b) (right_of c.args.ticket) c.args.fill void other; setup = refl }
+    λ mk. record { is_step = settle_elsewhere (setup_of b) (view m mk b) (right_of c.args.ticket) c.args.fill void other; setup = refl }
 
 pub returns : goal.returns
 returns g c =
@@ -32,7 +32,7 @@ returns g c =
     let void = sym (ap (λ t. t.void) c.spend.ensures) ∙ sym c.is_void.ensures ∙ c.if-is_void.false in
     let book = sym (ap (λ t. t.book) c.spend.ensures) ∙ sym c.book.ensures ∙ c.if-book-self.false in
     let number = sym (ap (λ t. t.number) c.spend.ensures) ∙ sym c.number.ensures in
-    record {
-      step = λ mk. c.settle_order.ensures.step mk ∙ ap (λ t. step (setup_of b) (view m mk b) (single (settling t c.args.fill))) (sym (ticket_is c.args.ticket.void false c.args.ticket.book b.number c.args.ticket.number c.number.result void book number));
-      setup = c.settle_order.ensures.setup;
+    λ mk. record {
+      is_step = (c.settle_order.ensures mk).is_step ∙ ap (λ t. step (setup_of b) (view m mk b) (single (settling t c.args.fill))) (sym (ticket_is c.args.ticket.void false c.args.ticket.book b.number c.args.ticket.number c.number.result void book number));
+      setup = (c.settle_order.ensures mk).setup;
     }
