@@ -8,7 +8,7 @@ pub returns-in-OpenDay : goal.returns-in-OpenDay
 returns-in-OpenDay g c =
     record {
       turned = asked c.in-OpenDay.is (silent _ (day_reply c.open_day.result) _ refl c.open_day.ensures.carried.is_step refl c.of_day-in-OpenDay.ensures (day_silent c.open_day.result) refl);
-      setup = c.open_day.ensures.setup;
+      setup = c.open_day.ensures.carried.setup;
       room = refl {a = c.args.held.now.cap};
       more = omega arith;
     }
@@ -17,7 +17,7 @@ pub returns-in-Place : goal.returns-in-Place
 returns-in-Place g c =
     record {
       turned = asked c.in-Place.is (silent _ (done_reply c.place.result) _ refl c.place.ensures.carried.is_step refl c.of_done.ensures (done_silent c.place.result) refl);
-      setup = c.place.ensures.setup;
+      setup = c.place.ensures.carried.setup;
       room = refl {a = c.args.held.now.cap};
       more = omega arith;
     }

@@ -11,7 +11,7 @@ returns g c =
     let t = c.claim-ticket.result in
     record {
       turned = λ ps. silent _ (gives (right_of t)) _ refl c.claim-ticket.ensures.carried.is_step (ap rights c.push_reserved.ensures.items ∙ rights_push c.args.held.now.items t) (ap told.Ticket c.is_void-void.ensures) refl refl;
-      setup = c.claim-ticket.ensures.setup;
+      setup = c.claim-ticket.ensures.carried.setup;
       room = c.push_reserved.ensures.capacity;
       more = omega (arith, c.push_reserved.ensures.len);
     }

@@ -23,7 +23,7 @@ returns g c =
     record {
       turned = λ ps. silent _ (done_reply c.settle.result) _ (one_held held.items held.len c.args.at c.args.fill t held.ok.0 within c.remove-ticket.ensures.value)
           c.settle.ensures.carried.is_step (ap rights c.remove-ticket.ensures.items ∙ rights_removed held.items c.args.at) c.of_done.ensures (done_silent c.settle.result) refl;
-      setup = c.settle.ensures.setup;
+      setup = c.settle.ensures.carried.setup;
       room = c.remove-ticket.ensures.capacity;
       more = omega (arith, c.remove-ticket.ensures.len);
     }

@@ -9,7 +9,7 @@ loop-held-preserved g c =
     let some : 0 < length held.items = omega (arith, held.ok.0) in (
       ending_more held.items c.loop-held.invariant.0 c.remove-ticket.result c.remove-ticket.new.self.items some c.remove-ticket.ensures.value c.remove-ticket.ensures.items
           (desk_setup c.settle.new.self) (desk_view g.C.Condition.meaning c.settle.new.self) (done_reply c.settle.result) c.of_done-reply.result c.push_reserved.new.self.items
-          c.settle.ensures.setup c.settle.ensures.carried.is_step c.of_done-reply.ensures c.push_reserved.ensures.items,
+          c.settle.ensures.carried.setup c.settle.ensures.carried.is_step c.of_done-reply.ensures c.push_reserved.ensures.items,
       omega (arith, c.loop-held.invariant.1, c.remove-ticket.ensures.len, c.push_reserved.ensures.len, c.push_reserved.ensures.capacity),
     )
 

@@ -2,4 +2,4 @@ use Rattle.book.proofs.Carrying.{carried}
 use Rattle.book.proofs.desk.Desk.claim.Goals as goal
 
 pub returns : goal.returns
-returns g c = record { carried = carried _ _ _ _ _ (c.claim.ensures.step _); unspent = c.claim.ensures.unspent; setup = c.claim.ensures.setup }
+returns g c = record { carried = carried _ _ _ _ (c.claim.ensures.step _) c.claim.ensures.setup; unspent = c.claim.ensures.unspent }

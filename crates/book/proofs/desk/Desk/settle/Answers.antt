@@ -2,4 +2,4 @@ use Rattle.book.proofs.Carrying.{carried}
 use Rattle.book.proofs.desk.Desk.settle.Goals as goal
 
 pub returns : goal.returns
-returns g c = record { carried = carried _ _ _ _ _ (c.settle.ensures.step _); setup = c.settle.ensures.setup }
+returns g c = record { carried = carried _ _ _ _ (c.settle.ensures.step _) c.settle.ensures.setup }
