@@ -1,7 +1,7 @@
 // A book with a market of its own. Each call extends every run of calls that led to where it began by one step of the book's meaning,
 // and the run with it keeps the whole law.
 ghost use Rattle.std.specs.Prelude.{◌≡◌, ◌≤◌, false, length, drop};
-ghost use Rattle.rules.specs.Book.{new, Setup};
+ghost use Rattle.rules.specs.Book.{new};
 ghost use Rattle.rules.specs.Calls as call;
 ghost use Rattle.book.specs.Carrying.{desk_of, Carried};
 ghost use Rattle.book.specs.View.{desk_view, desk_setup, right_of, day_reply, done_reply, quote_reply, count_in, burst_reply};

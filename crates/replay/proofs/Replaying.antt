@@ -15,8 +15,8 @@ use Rattle.rules.specs.Law.{Lawful}
 use Rattle.rules.specs.Trace.{Entry, entry, trace, slips_in}
 use Rattle.rules.specs.declared.slip.Slip.{Slip}
 use Rattle.rules.proofs.Laws.{lawful, independent}
-use Rattle.replay.specs.Replaying.{Point, point, rights, call_of, held_after, answered, after, outcome, next, point_of, unfilled, outcomes, made_list, entries, short, Told, reply_of, slips_of, count_of, Turned, Passed, Replays}
-use Rattle.book.specs.Carrying.{desk_of, Carried}
+use Rattle.replay.specs.Replaying.{Point, point, rights, call_of, held_after, answered, after, outcome, next, point_of, unfilled, outcomes, made_list, entries, short, Told, reply_of, slips_of, count_of, Quiet, Turned, Passed, Replays}
+use Rattle.book.specs.Carrying.{desk_of}
 use Rattle.book.specs.View.{desk_view, desk_setup, right_of}
 use Rattle.replay.specs.declared.run.Request.{Request}
 use Rattle.replay.specs.declared.run.Runner.{Runner}
@@ -37,27 +37,27 @@ count_reply : (x : Option Entry) → count_of (reply_of x) ≡ length (slips_of 
 count_reply None = refl
 count_reply (Some x) = count_short x.reply
 
--- One request, which is the call c, answered rep: it writes no slips.
+-- One request, which is the call c: it writes no slips.
 
-pub silent : {C : Type 0} {means : C → Meaning} {x y : Runner C} {q : Request C} {r : Told} (ps : List Slip) (c : Call) (rep : Reply)
-    → Carried (desk_of means x.desk) (desk_of means y.desk) c rep → call_of means (point_of means x (length ps)) q ≡ Some c
-    → rights y.held.items ≡ held_after q rep (rights x.held.items) → r ≡ short rep → slips_in rep ≡ []
+pub silent : {C : Type 0} {means : C → Meaning} {x y : Runner C} {q : Request C} {c : Call} {r : Told} (ps : List Slip)
+    → (quiet : Quiet (desk_of means x.desk) (desk_of means y.desk) c r) → call_of means (point_of means x (length ps)) q ≡ Some c
+    → rights y.held.items ≡ held_after q quiet.reply (rights x.held.items)
     → deque_capacity y.held ≡ deque_capacity x.held → deque_len y.held ≤ deque_len x.held + 1 → Turned means x q y r ps ps
-silent {C} {means} {x} {y} {q} {r} ps c rep made is h told none room more =
+silent {C} {means} {x} {y} {q} {c} {r} ps quiet is h room more =
     let su : Setup = desk_setup x.desk in
     let p : Point = point_of means x (length ps) in
-    let st : (desk_view means y.desk, rep) ≡ step su p.state c = made.is_step in
-    let same : rep ≡ (step su p.state c).1 = ap (λ (z : State × Reply). z.1) st in
-    let zero : count_of r ≡ 0 = ap count_of told ∙ count_short rep ∙ ap length none in
+    let st : (desk_view means y.desk, quiet.reply) ≡ step su p.state c = quiet.carried.is_step in
+    let same : quiet.reply ≡ (step su p.state c).1 = ap (λ (z : State × Reply). z.1) st in
+    let zero : count_of r ≡ 0 = ap count_of quiet.told ∙ count_short quiet.reply ∙ ap length quiet.silent in
     let e : Some c ≡ call_of means p q = sym is in
     record {
       state = ap (λ (z : State × Reply). z.0) st ∙ ap (λ (o : Option Call). (after su p q o).state) e;
       held = h ∙ ap (λ z. held_after q z p.held) same ∙ ap (λ (o : Option Call). (after su p q o).held) e;
-      reply = told ∙ ap short same ∙ ap (λ (o : Option Call). reply_of (answered su p.state o)) e;
+      reply = quiet.told ∙ ap short same ∙ ap (λ (o : Option Call). reply_of (answered su p.state o)) e;
       within = omega (arith, zero);
-      slips = ap (λ n. take n ps) zero ∙ sym none ∙ ap slips_in same ∙ ap (λ (o : Option Call). slips_of (answered su p.state o)) e;
+      slips = ap (λ n. take n ps) zero ∙ sym quiet.silent ∙ ap slips_in same ∙ ap (λ (o : Option Call). slips_of (answered su p.state o)) e;
       rest = refl;
-      setup = made.setup;
+      setup = quiet.carried.setup;
       room = room;
       more = more;
     }

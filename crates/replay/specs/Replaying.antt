@@ -10,6 +10,7 @@ use Rattle.rules.specs.Calls.{Ticket as Right}
 use Rattle.rules.specs.Law.{Lawful, Independent}
 use Rattle.rules.specs.Trace.{Entry, entry, trace, slips_in}
 use Rattle.rules.specs.declared.slip.Slip.{Slip}
+use Rattle.book.specs.Carrying.{Standing, Carried}
 use Rattle.book.specs.View.{desk_view, desk_setup, right_of}
 use Rattle.replay.specs.declared.run.Answer.{Answer}
 use Rattle.replay.specs.declared.run.Answer.TheVariants as told
@@ -131,6 +132,13 @@ count_of (Ok (told.Burst b)) = b.written
 count_of (Ok (told.Ticket void)) = 0
 count_of (Ok (told.State x)) = 0
 count_of (Err f) = 0
+
+-- A call of a desk, from d to e, that writes no slips and is told r.
+pub record Quiet (d e : Standing) (c : Call) (r : Told) : Type 0 where
+  pub reply : Reply
+  pub carried : Carried d e c reply
+  pub told : r ≡ short reply
+  pub silent : slips_in reply ≡ []
 
 -- One request carried out by a runner, from x to y: it is answered r, and the places, which held ps, hold ps'. The setup and the room for
 -- tickets stay, and one more ticket is held at most.

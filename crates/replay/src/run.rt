@@ -2,11 +2,10 @@
 ghost use Rattle.std.specs.Prelude.{◌≡◌, ◌+◌, ◌<◌, ◌≤◌, List, [], ◌++◌, map, length, vec_len, vec_capacity, MatchResult};
 ghost use Rattle.std.specs.VecDeque.{deque_len, deque_capacity};
 ghost use Rattle.rules.specs.Calls as call;
-ghost use Rattle.rules.specs.Trace.{slips_in};
 ghost use Rattle.rules.specs.declared.slip.Slip.{Slip as Place};
-ghost use Rattle.replay.specs.Replaying.{point_of, rights, short, reply_of, count_of, outcomes, Turned, Passed, Replays};
-ghost use Rattle.book.specs.Carrying.{desk_of, Carried};
-ghost use Rattle.book.specs.View.{desk_view, desk_setup, right_of};
+ghost use Rattle.replay.specs.Replaying.{point_of, reply_of, count_of, outcomes, Quiet, Turned, Passed, Replays};
+ghost use Rattle.book.specs.Carrying.{desk_of};
+ghost use Rattle.book.specs.View.{desk_setup, right_of};
 ghost use Rattle.replay.specs.declared.run.Request.TheVariants as ask;
 ghost use Rattle.replay.specs.declared.run.Refusal.TheVariants as why;
 
@@ -41,7 +40,7 @@ pub enum Request<'r, C> {
     AskState(u32),
 }
 
-// What it was answered; the slips of all requests stand together.
+// What a request was answered; the slips of all requests stand together.
 #[derive(Clone, Copy)]
 pub enum Answer {
     Done,
@@ -52,7 +51,7 @@ pub enum Answer {
     State(Option<OrderState>),
 }
 
-// Why it was refused.
+// Why a request was refused.
 #[derive(Clone, Copy)]
 pub enum Refusal {
     // no ticket is held at that place: no call was made
@@ -126,7 +125,7 @@ impl<'a, C: Condition + Copy> Runner<'a, C> {
     // Spends a ticket that is no longer held.
     fn spend(&mut self, ticket: Ticket, fill: Option<Price>) -> Reply
         ensures held { self.new.held ≡ self.old.held }
-        ensures told { (r : call.Reply) × (Carried (desk_of C.Condition.meaning self.old.desk) (desk_of C.Condition.meaning self.new.desk) (call.single (call.settling (right_of ticket) fill)) r × (result ≡ short r) × (slips_in r ≡ [])) }
+        ensures told { Quiet (desk_of C.Condition.meaning self.old.desk) (desk_of C.Condition.meaning self.new.desk) (call.single (call.settling (right_of ticket) fill)) result }
     {
         self.desk.settle(ticket, fill)?;
         Ok(Answer::Done)

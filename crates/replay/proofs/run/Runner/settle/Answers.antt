@@ -10,12 +10,10 @@ pub returns : goal.returns
 returns g c =
     let held = c.args.self.now.held in
     let was = c.remove.ensures in
-    let t = c.in_ok-ticket.ticket in
-    let some : c.remove.result ≡ Some t = c.ok_or.ensures.ok_part ∙ ap result_ok c.in_ok-ticket.was in
+    let same = c.spend.ensures.held in
+    let some : c.remove.result ≡ Some c.in_ok-ticket.ticket = c.ok_or.ensures.ok_part ∙ ap result_ok c.in_ok-ticket.was in
     let here : c.args.at < length held.items = omega (arith, held.ok.0, was.variant.0 (ap is_some some)) in
     let items = rw some at was.items in
     let len = rw some at was.len in
-    let same = c.spend.ensures.held in
-    let told = c.spend.ensures.told in
-    λ ps. silent ps _ told.0 told.1.0 (one_held held.items c.args.at c.args.fill c.remove.result t some was.value here)
-    (ap (λ z. rights z.items) same ∙ ap rights items ∙ rights_removed held.items c.args.at) told.1.1 told.1.2 (ap deque_capacity same ∙ was.capacity) (omega (arith, ap deque_len same, len))
+    λ ps. silent ps c.spend.ensures.told (one_held held.items c.args.at c.args.fill c.remove.result c.in_ok-ticket.ticket some was.value here)
+    (ap (λ z. rights z.items) same ∙ ap rights items ∙ rights_removed held.items c.args.at) (ap deque_capacity same ∙ was.capacity) (omega (arith, ap deque_len same, len))
