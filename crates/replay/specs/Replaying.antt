@@ -50,24 +50,14 @@ call_of means p (ask.Settle i fill) = option_map (λ t. single (settling t fill)
 call_of means p (ask.AskState k) = Some (single (asking k))
 
 abbrev pub given_by : Reply → List Right
-given_by done = []
-given_by (wrote slips) = []
-given_by (burst_wrote n slips f) = []
 given_by (gives t) = t ∷ []
-given_by (in_state x) = []
-given_by (refused f) = []
+given_by _ = []
 
 -- the tickets held after a call: a claim adds its own, and a settlement spends one
 abbrev pub held_after : {C : Type 0} → Request C → Reply → List Right → List Right
-held_after (ask.ListShare h closes) r ts = ts
-held_after (ask.OpenDay d) r ts = ts
-held_after (ask.Place t m) r ts = ts
-held_after (ask.TakeQuote q) r ts = ts
-held_after (ask.TakeBurst qs) r ts = ts
-held_after (ask.Cancel k) r ts = ts
 held_after (ask.Claim k) r ts = ts ++ given_by r
 held_after (ask.Settle i fill) r ts = remove ts i
-held_after (ask.AskState k) r ts = ts
+held_after _ r ts = ts
 
 -- a call with its answer, if one is made, and where it leaves the replay
 abbrev pub answered : Setup → State → Option Call → Option Entry
@@ -126,12 +116,9 @@ slips_of (Some x) = slips_in x.reply
 
 -- how many slips a reply speaks of
 abbrev pub count_of : Told → ℕ
-count_of (Ok told.Done) = 0
 count_of (Ok (told.Wrote n)) = n
 count_of (Ok (told.Burst b)) = b.written
-count_of (Ok (told.Ticket void)) = 0
-count_of (Ok (told.State x)) = 0
-count_of (Err f) = 0
+count_of _ = 0
 
 -- A call of a desk, from d to e, that writes no slips and is told r.
 pub record Quiet (d e : Standing) (c : Call) (r : Told) : Type 0 where
