@@ -1,10 +1,13 @@
 // A whole run: a list of requests carried out on a new book and market, and all that was answered.
 ghost use Rattle.std.specs.Prelude.{◌≡◌, ◌+◌, ◌<◌, ◌≤◌, List, [], ◌++◌, map, length, vec_len, vec_capacity, MatchResult};
+ghost use Rattle.std.specs.VecDeque.{deque_len, deque_capacity};
 ghost use Rattle.rules.specs.Calls as call;
 ghost use Rattle.rules.specs.declared.slip.Slip.{Slip as Place};
-ghost use Rattle.replay.specs.Replaying.{point, rights, short, reply_of, count_of, outcomes, Turned, Passed, Replays};
-ghost use Rattle.book.specs.View.{desk_view, desk_setup, day_reply, done_reply};
+ghost use Rattle.replay.specs.Replaying.{point_of, reply_of, count_of, outcomes, Quiet, Turned, Passed, Replays};
+ghost use Rattle.book.specs.Carrying.{desk_of};
+ghost use Rattle.book.specs.View.{desk_setup, right_of};
 ghost use Rattle.replay.specs.declared.run.Request.TheVariants as ask;
+ghost use Rattle.replay.specs.declared.run.Refusal.TheVariants as why;
 
 use book::burst::Burst;
 use book::desk::Desk;
@@ -18,6 +21,7 @@ use rules::quote::Quote;
 use rules::slip::Slip;
 use rules::state::OrderState;
 use std::alloc::{AllocError, Global};
+use std::collections::VecDeque;
 use values::limit::Limit;
 use values::price::Price;
 
@@ -36,20 +40,27 @@ pub enum Request<'r, C> {
     AskState(u32),
 }
 
-// What it was answered; the slips of all requests stand together.
+// What a request was answered; the slips of all requests stand together.
 #[derive(Clone, Copy)]
-pub enum Reply {
+pub enum Answer {
     Done,
     // how many slips a quote wrote
     Wrote(usize),
     Burst(Burst),
     Ticket { void: bool },
     State(Option<OrderState>),
+}
+
+// Why a request was refused.
+#[derive(Clone, Copy)]
+pub enum Refusal {
     // no ticket is held at that place: no call was made
     NoTicket,
-    RefusedByMarket(MarketFault),
-    RefusedByBook(PlacingFault),
+    ByMarket(MarketFault),
+    ByBook(PlacingFault),
 }
+
+pub type Reply = Result<Answer, Refusal>;
 
 // All that was answered: to each request in turn, and then to the settlements at the end; and how many slips were written.
 #[derive(Drop)]
@@ -58,153 +69,132 @@ pub struct Replayed {
     pub written: usize,
 }
 
-impl Reply {
-    // How many slips it speaks of.
-    fn count(&self) -> usize
-        ensures { result ≡ count_of self.now }
+impl From<MarketFault> for Refusal {
+    ghost from_gives = { λ f r. r ≡ why.ByMarket f };
+
+    fn from(f: MarketFault) -> Refusal {
+        Refusal::ByMarket(f)
+    }
+}
+
+impl From<PlacingFault> for Refusal {
+    ghost from_gives = { λ f r. r ≡ why.ByBook f };
+
+    fn from(f: PlacingFault) -> Refusal {
+        Refusal::ByBook(f)
+    }
+}
+
+// How many slips a reply speaks of.
+fn count(reply: &Reply) -> usize
+    ensures { result ≡ count_of reply.now }
+{
+    match reply {
+        Ok(Answer::Wrote(n)) => *n,
+        Ok(Answer::Burst(burst)) => burst.written,
+        _ => 0,
+    }
+}
+
+// A desk at work, with the tickets that are held, the oldest first.
+struct Runner<'a, C> {
+    desk: Desk<'a, C>,
+    held: VecDeque<Ticket>,
+}
+
+impl<'a, C: Condition + Copy> Runner<'a, C> {
+    // Claims an order, and holds the ticket.
+    fn claim(&mut self, number: u32) -> Reply
+        requires { deque_len self.old.held < deque_capacity self.old.held }
+        ensures { (ps : List Place) → Turned C.Condition.meaning self.old (ask.Claim number) self.new result ps ps }
     {
-        match self {
-            Reply::Done => 0,
-            Reply::Wrote(n) => *n,
-            Reply::Burst(burst) => burst.written,
-            Reply::Ticket { void: _ } => 0,
-            Reply::State(_) => 0,
-            Reply::NoTicket => 0,
-            Reply::RefusedByMarket(_) => 0,
-            Reply::RefusedByBook(_) => 0,
+        let ticket = self.desk.claim(number);
+        let void = ticket.is_void();
+        self.held.push_back_reserved(ticket);
+        Ok(Answer::Ticket { void })
+    }
+
+    // Spends the ticket that is held at that place, if there is one.
+    fn settle(&mut self, at: usize, fill: Option<Price>) -> Reply
+        ensures { (ps : List Place) → Turned C.Condition.meaning self.old (ask.Settle at fill) self.new result ps ps }
+    {
+        let ticket = self.held.remove(at).ok_or(Refusal::NoTicket)?;
+        self.spend(ticket, fill)
+    }
+
+    // Spends a ticket that is no longer held.
+    fn spend(&mut self, ticket: Ticket, fill: Option<Price>) -> Reply
+        ensures held { self.new.held ≡ self.old.held }
+        ensures told { Quiet (desk_of C.Condition.meaning self.old.desk) (desk_of C.Condition.meaning self.new.desk) (call.single (call.settling (right_of ticket) fill)) result }
+    {
+        self.desk.settle(ticket, fill)?;
+        Ok(Answer::Done)
+    }
+
+    // Carries out one request; a ticket that it gives has a place among those held.
+    fn carry_out<'r>(&mut self, request: &Request<'r, C>, slips: &mut [Slip]) -> Reply
+        requires { deque_len self.old.held < deque_capacity self.old.held }
+        ensures { Turned C.Condition.meaning self.old request.now self.new result slips.old slips.new }
+    {
+        match request {
+            Request::ListShare { share, closes } => {
+                self.desk.list(*share, closes)?;
+                Ok(Answer::Done)
+            }
+            Request::OpenDay(opening) => {
+                self.desk.open_day(*opening)?;
+                Ok(Answer::Done)
+            }
+            Request::Place { terms, condition } => {
+                self.desk.place(*terms, *condition)?;
+                Ok(Answer::Done)
+            }
+            Request::TakeQuote(quote) => Ok(Answer::Wrote(self.desk.quote(*quote, slips)?)),
+            Request::TakeBurst(quotes) => Ok(Answer::Burst(self.desk.burst(quotes, slips))),
+            Request::Cancel(number) => {
+                self.desk.cancel(*number)?;
+                Ok(Answer::Done)
+            }
+            Request::Claim(number) => self.claim(*number),
+            Request::Settle { ticket, fill } => self.settle(*ticket, *fill),
+            Request::AskState(number) => Ok(Answer::State(self.desk.state(*number))),
         }
     }
-}
 
-fn of_day(r: Result<(), MarketFault>) -> Reply
-    ensures { result ≡ short (day_reply r) }
-{
-    match r {
-        Ok(()) => Reply::Done,
-        Err(fault) => Reply::RefusedByMarket(fault),
+    // Carries out the requests in turn, each writing into the places after the slips already there, and answers how many there are.
+    fn carry_out_all<'r>(
+        &mut self,
+        requests: &[Request<'r, C>],
+        slips: &mut [Slip],
+        replies: &mut Vec<Reply>,
+    ) -> usize
+        requires tickets { deque_len self.old.held + length requests.now ≤ deque_capacity self.old.held }
+        requires answers { vec_len replies.old + length requests.now ≤ vec_capacity replies.old }
+        ensures passed { Passed C.Condition.meaning self.old requests.now self.new result replies.old.items replies.new.items slips.old slips.new }
+        ensures room { vec_capacity replies.new ≡ vec_capacity replies.old }
+        ensures grown { vec_len replies.new ≡ vec_len replies.old + length requests.now }
+    {
+        let mut written = 0;
+        for request in requests {
+            let reply = self.carry_out(request, &mut slips[written..]);
+            written += count(&reply);
+            replies.push_reserved(reply);
+        }
+        written
     }
-}
 
-fn of_done(r: Result<(), PlacingFault>) -> Reply
-    ensures { result ≡ short (done_reply r) }
-{
-    match r {
-        Ok(()) => Reply::Done,
-        Err(fault) => Reply::RefusedByBook(fault),
+    // Settles the tickets that are held with nothing filled, the oldest first.
+    fn settle_all(mut self, replies: &mut Vec<Reply>)
+        requires { vec_len replies.old + deque_len self.held ≤ vec_capacity replies.old }
+        ensures { replies.new.items ≡ replies.old.items ++ map reply_of (outcomes C.Condition.meaning (desk_setup self.entry.desk) (point_of C.Condition.meaning self.entry 0) []) }
+    {
+        while let Some(ticket) = self.held.pop_front() {
+            let reply = self.spend(ticket, None);
+            replies.push_reserved(reply);
+        }
+        let Runner { desk: _, held } = self;
+        held.destroy_empty();
     }
-}
-
-// Claims an order, and holds the ticket.
-fn claim<'a, C: Condition>(desk: &mut Desk<'a, C>, held: &mut Vec<Ticket>, number: u32) -> Reply
-    requires { vec_len held.old < vec_capacity held.old }
-    ensures turned { (ps : List Place) → Turned C.Condition.meaning (desk_setup desk.old) (point (desk_view C.Condition.meaning desk.old) (rights held.old.items) (length ps)) (ask.Claim number) (desk_view C.Condition.meaning desk.new) (rights held.new.items) result ps ps }
-    ensures setup { desk_setup desk.new ≡ desk_setup desk.old }
-    ensures room { vec_capacity held.new ≡ vec_capacity held.old }
-    ensures more { vec_len held.new ≤ vec_len held.old + 1 }
-{
-    let ticket = desk.claim(number);
-    let void = ticket.is_void();
-    held.push_reserved(ticket);
-    Reply::Ticket { void }
-}
-
-// Spends the ticket that is held at that place, if there is one.
-fn settle<'a, C: Condition>(
-    desk: &mut Desk<'a, C>,
-    held: &mut Vec<Ticket>,
-    at: usize,
-    fill: Option<Price>,
-) -> Reply
-    ensures turned { (ps : List Place) → Turned C.Condition.meaning (desk_setup desk.old) (point (desk_view C.Condition.meaning desk.old) (rights held.old.items) (length ps)) (ask.Settle at fill) (desk_view C.Condition.meaning desk.new) (rights held.new.items) result ps ps }
-    ensures setup { desk_setup desk.new ≡ desk_setup desk.old }
-    ensures room { vec_capacity held.new ≡ vec_capacity held.old }
-    ensures more { vec_len held.new ≤ vec_len held.old + 1 }
-{
-    if at >= held.len() {
-        return Reply::NoTicket;
-    }
-    let ticket = held.remove(at);
-    of_done(desk.settle(ticket, fill))
-}
-
-// Takes a quote, with its slips in the first places.
-fn quote<'a, C: Condition>(desk: &mut Desk<'a, C>, quote: Quote, slips: &mut [Slip]) -> Reply
-    ensures turned { (ts : List call.Ticket) → Turned C.Condition.meaning (desk_setup desk.old) (point (desk_view C.Condition.meaning desk.old) ts (length slips.old)) (ask.TakeQuote quote) (desk_view C.Condition.meaning desk.new) ts result slips.old slips.new }
-    ensures setup { desk_setup desk.new ≡ desk_setup desk.old }
-{
-    match desk.quote(quote, slips) {
-        Ok(n) => Reply::Wrote(n),
-        Err(fault) => Reply::RefusedByBook(fault),
-    }
-}
-
-// Carries out one request; a ticket that it gives has a place among those held.
-fn carry_out<'a, 'r, C: Condition + Copy>(
-    desk: &mut Desk<'a, C>,
-    held: &mut Vec<Ticket>,
-    request: &Request<'r, C>,
-    slips: &mut [Slip],
-) -> Reply
-    requires { vec_len held.old < vec_capacity held.old }
-    ensures turned { Turned C.Condition.meaning (desk_setup desk.old) (point (desk_view C.Condition.meaning desk.old) (rights held.old.items) (length slips.old)) request.now (desk_view C.Condition.meaning desk.new) (rights held.new.items) result slips.old slips.new }
-    ensures setup { desk_setup desk.new ≡ desk_setup desk.old }
-    ensures room { vec_capacity held.new ≡ vec_capacity held.old }
-    ensures more { vec_len held.new ≤ vec_len held.old + 1 }
-{
-    match request {
-        Request::ListShare { share, closes } => of_day(desk.list(*share, closes)),
-        Request::OpenDay(opening) => of_day(desk.open_day(*opening)),
-        Request::Place { terms, condition } => of_done(desk.place(*terms, *condition)),
-        Request::TakeQuote(one) => quote(desk, *one, slips),
-        Request::TakeBurst(quotes) => Reply::Burst(desk.burst(quotes, slips)),
-        Request::Cancel(number) => of_done(desk.cancel(*number)),
-        Request::Claim(number) => claim(desk, held, *number),
-        Request::Settle { ticket, fill } => settle(desk, held, *ticket, *fill),
-        Request::AskState(number) => Reply::State(desk.state(*number)),
-    }
-}
-
-// Carries out the requests in turn, each writing into the places after the slips already there, and answers how many there are.
-fn carry_out_all<'a, 'r, C: Condition + Copy>(
-    desk: &mut Desk<'a, C>,
-    held: &mut Vec<Ticket>,
-    requests: &[Request<'r, C>],
-    slips: &mut [Slip],
-    replies: &mut Vec<Reply>,
-) -> usize
-    requires tickets { vec_len held.old + length requests.now ≤ vec_capacity held.old }
-    requires answers { vec_len replies.old + length requests.now ≤ vec_capacity replies.old }
-    ensures passed { Passed C.Condition.meaning (desk_setup desk.old) (point (desk_view C.Condition.meaning desk.old) (rights held.old.items) (length slips.old)) requests.now (desk_view C.Condition.meaning desk.new) (rights held.new.items) result replies.old.items replies.new.items slips.old slips.new }
-    ensures setup { desk_setup desk.new ≡ desk_setup desk.old }
-    ensures room { vec_capacity replies.new ≡ vec_capacity replies.old }
-    ensures grown { vec_len replies.new ≡ vec_len replies.old + length requests.now }
-    ensures more { vec_len held.new ≤ vec_len held.old + length requests.now }
-{
-    let mut written = 0;
-    let places = slips.len();
-    for request in requests {
-        let reply = carry_out(desk, held, request, &mut slips[written..places]);
-        written += reply.count();
-        replies.push_reserved(reply);
-    }
-    written
-}
-
-// Settles the tickets that are held with nothing filled, the oldest first.
-fn settle_all<'a, C: Condition>(
-    desk: &mut Desk<'a, C>,
-    mut held: Vec<Ticket>,
-    replies: &mut Vec<Reply>,
-)
-    requires { vec_len replies.old + vec_len held ≤ vec_capacity replies.old }
-    ensures { replies.new.items ≡ replies.old.items ++ map reply_of (outcomes C.Condition.meaning (desk_setup desk.old) (point (desk_view C.Condition.meaning desk.old) (rights held.items) 0) []) }
-{
-    while held.len() > 0 {
-        let ticket = held.remove(0);
-        let reply = of_done(desk.settle(ticket, None));
-        replies.push_reserved(reply);
-    }
-    held.destroy_empty();
 }
 
 // Carries out the requests on a new book over the rows, and a new market. The slips fill from the first place on; each request has the
@@ -221,13 +211,14 @@ pub fn replay<'r, C: Condition + Copy>(
     ensures { MatchResult result (λ x. Replays C.Condition.meaning (record { rows = length rows.entry.now; limit = limit.value; book = number }) requests.now x.replies.items x.written slips.old slips.new) (λ _. slips.new ≡ slips.old) }
 {
     let n = requests.len();
-    let Some(room) = n.checked_add(n) else {
-        return Err(AllocError);
-    };
+    let room = n.checked_add(n).ok_or(AllocError)?;
     let mut replies = Vec::with_capacity(heap, room)?;
-    let mut held = Vec::with_capacity(heap, n)?;
-    let mut desk = Desk::new(rows, number, limit);
-    let written = carry_out_all(&mut desk, &mut held, requests, slips, &mut replies);
-    settle_all(&mut desk, held, &mut replies);
+    let held = VecDeque::with_capacity(heap, n)?;
+    let mut runner = Runner {
+        desk: Desk::new(rows, number, limit),
+        held,
+    };
+    let written = runner.carry_out_all(requests, slips, &mut replies);
+    runner.settle_all(&mut replies);
     Ok(Replayed { replies, written })
 }

@@ -1,5 +1,5 @@
 use Rattle.book.proofs.Carrying.{carried}
 use Rattle.book.proofs.desk.Desk.burst.Goals as goal
 
-pub returns : goal.returns
-returns g c = record { carried = carried _ _ _ _ _ c.burst.ensures.step.is_step; count = c.burst.ensures.count; rest = c.burst.ensures.rest; setup = c.burst.ensures.step.setup }
+pub returns-clause-carried : goal.returns-clause-carried
+returns-clause-carried g c = carried _ _ _ _ c.burst.ensures.step.is_step c.burst.ensures.step.setup

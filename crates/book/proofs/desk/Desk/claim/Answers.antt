@@ -2,5 +2,5 @@ use Rattle.rules.specs.Market.{unlisted}
 use Rattle.book.proofs.Carrying.{carried}
 use Rattle.book.proofs.desk.Desk.claim.Goals as goal
 
-pub returns : goal.returns
-returns g c = record { carried = carried _ _ _ _ _ (c.claim.ensures.step _).is_step; unspent = c.claim.ensures.unspent; setup = (c.claim.ensures.step unlisted).setup }
+pub returns-clause-carried : goal.returns-clause-carried
+returns-clause-carried g c = carried _ _ _ _ (c.claim.ensures.step _).is_step (c.claim.ensures.step unlisted).setup

@@ -1,5 +1,5 @@
 use Rattle.book.proofs.Carrying.{carried}
 use Rattle.book.proofs.desk.Desk.quote.Goals as goal
 
-pub returns : goal.returns
-returns g c = record { carried = carried _ _ _ _ _ c.quote.ensures.step.is_step; count = c.quote.ensures.count; rest = c.quote.ensures.rest; setup = c.quote.ensures.step.setup }
+pub returns-clause-carried : goal.returns-clause-carried
+returns-clause-carried g c = carried _ _ _ _ c.quote.ensures.step.is_step c.quote.ensures.step.setup
