@@ -24,18 +24,12 @@ use values::range::PriceRange;
 
 // The number of a refusal, or 0.
 fn refusal(answer: Result<(), PlacingFault>) -> u8 {
-    match answer {
-        Ok(()) => 0,
-        Err(fault) => fault.number(),
-    }
+    answer.err().map_or(0, |fault| fault.number())
 }
 
 // The number of a state, or 0.
 fn state_number(state: Option<OrderState>) -> u8 {
-    match state {
-        Some(state) => state.number(),
-        None => 0,
-    }
+    state.map_or(0, |state| state.number())
 }
 
 // 100 of share 3 at its last price, without a total.

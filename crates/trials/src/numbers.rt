@@ -11,10 +11,7 @@ use values::range::PriceRange;
 use values::step::{Difference, Percentage, Step};
 
 fn number_of<T: Drop>(made: Result<T, MakingFault>) -> u8 {
-    match made {
-        Ok(_) => 0,
-        Err(fault) => fault.number(),
-    }
+    made.err().map_or(0, |fault| fault.number())
 }
 
 #[test]
