@@ -82,9 +82,6 @@ module _ {su₀ su : Setup} {qs : List Quote} {s₀ s : State} {ps ss : List Sli
       ap₂ (λ n z. (s₂, burst_wrote n z f)) c (sym (append-nil (take w ss)))
       ∙ ap answer_of (sym (ap (onward k (take w ss)) e) ∙ p.onwards)
 
-  pub burst_all : length qs ≤ i → (s, burst_wrote k (take w ss) None) ≡ step su₀ s₀ (burst qs (length ps))
-  burst_all h = ended s None (ap (λ z. bursts su₀ s z (length ps - w)) (drop_all i qs h))
-
   -- the quote at i, which leaves the state s₂ and ys in the places; d is any quote
   module _ (d : Quote) (h : i < length qs) (su₂ : Setup) (s₂ : State) (ys : List Slip) (same : su₂ ≡ su) where
     abbrev q : Quote
@@ -101,13 +98,13 @@ module _ {su₀ su : Setup} {qs : List Quote} {s₀ s : State} {ps ss : List Sli
 
     -- it is refused
     pub burst_err : (f : PlacingFault) → (s₂, refused (by_book f)) ≡ step su s (single (quoting q (length tail))) → ys ≡ tail
-        → ((s₂, burst_wrote k (take w (filled ys)) (Some f)) ≡ step su₀ s₀ (burst qs (length ps))) × (drop w (filled ys) ≡ drop w ps) × (su₂ ≡ su₀)
+        → ((s₂, burst_wrote k (take w (filled ys)) (Some f)) ≡ step su₀ s₀ (burst qs (length ps))) × (su₂ ≡ su₀)
     burst_err f e y =
         let n : ℕ = length ps - w in
         let b = err_by su₀ s s₂ q n f (first_fault (quote_call_checks s q n)) (e ∙ by_setup) in
         let v : filled ys ≡ ss = put_is ys ∙ ap (λ z. take w ss ++ z) (y ∙ tail_is) ∙ take-append-drop w ss in
         let o : bursts su₀ s (drop i qs) n ≡ record { state = s; count = 0; slips = []; fault = Some f } = at_quote ∙ ap (λ x. one_more x s (quote_slips su₀ s q n) further) b.0 in
-        (ap₂ (λ a z. (a, burst_wrote k (take w z) (Some f))) b.1 v ∙ ended s (Some f) o, ap (drop w) v ∙ p.rest, same ∙ p.setup)
+        (ap₂ (λ a z. (a, burst_wrote k (take w z) (Some f))) b.1 v ∙ ended s (Some f) o, same ∙ p.setup)
 
     -- it is taken, and wrote m slips
     pub burst_more : (m : ℕ) → (s₂, wrote (take m ys)) ≡ step su s (single (quoting q (length tail))) → m ≤ length tail → length ys ≡ length tail → drop m ys ≡ drop m tail

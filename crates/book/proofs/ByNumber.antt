@@ -53,12 +53,6 @@ module _ (su : Setup) (s : State) (t : Ticket) (fill : Option Price) where
       ap (λ z. settle_by z (eqb t.book su.book) (holds (λ r. r.claimed) (row_of t.number s.rows))) a
       ∙ ap₂ (settle_by v) b c
 
-  pub settle_void : t.void ≡ true → (s, refused (by_book fault.VoidTicket)) ≡ step su s (single (settling t fill))
-  settle_void a = sym (settle_is true _ _ a refl refl)
-
-  pub settle_elsewhere : t.void ≡ false → eqb t.book su.book ≡ false → (s, refused (by_book fault.WrongTicket)) ≡ step su s (single (settling t fill))
-  settle_elsewhere a b = sym (settle_is false false _ a b refl)
-
   settle_unclaimed : t.void ≡ false → eqb t.book su.book ≡ true → holds (λ r. r.claimed) (row_of t.number s.rows) ≡ false
       → (s, refused (by_book fault.WrongTicket)) ≡ step su s (single (settling t fill))
   settle_unclaimed a b c = sym (settle_is false true false a b c)

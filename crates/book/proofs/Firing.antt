@@ -3,7 +3,6 @@ use Rattle.std.proofs.Common.{◌≡◌, ℕ, Bool, true, false, cond, ◌&&◌,
 use borrow.Author.Tests.{clash}
 use Rattle.conditions.specs.Meaning.{Meaning, after}
 use Rattle.conditions.specs.declared.event.Answer.{Answer}
-use Rattle.conditions.specs.declared.event.Answer.TheVariants as answer
 use Rattle.conditions.specs.declared.event.Event.TheVariants as event
 use Rattle.conditions.specs.declared.event.Tick.{Tick}
 use Rattle.rules.specs.Book.{standing}
@@ -14,7 +13,7 @@ use Rattle.rules.specs.declared.order.Terms.{Terms}
 use Rattle.rules.specs.declared.slip.Slip.{Slip}
 use Rattle.rules.specs.declared.state.OrderState.{OrderState}
 use Rattle.rules.specs.declared.state.OrderState.TheVariants as state
-use Rattle.book.specs.Turning.{with_machine, kept, machine_ticked, ticked_left, ticked_row}
+use Rattle.book.specs.Turning.{kept, machine_ticked, ticked_left, ticked_row}
 use Rattle.book.specs.View.{machine_in, claimed_in, watching_in, watches_now, notes_of, row_view}
 use Rattle.book.specs.declared.row.Row.{Row}
 
@@ -25,17 +24,6 @@ row_in t s m n = record { terms = t; machine = machine_in s m n; claimed = claim
 -- what the tick leaves of it, where b is whether it is of the row's share
 abbrev left_in : Bool → Terms → ℕ → Tick → OrderState → Meaning → Notes → Left
 left_in b t limit k s m n = cond b (machine_ticked t limit k (machine_in s m n)) (silent (machine_in s m n))
-
-unmoved_in : (b : Bool) (s : OrderState) (t : Terms) (limit : ℕ) (k : Tick) (m : Meaning) (n : Notes) → false ≡ b && watching_in s
-    → (row_in t s m n ∷ [] ≡ standing (with_machine (row_in t s m n) (left_in b t limit k s m n).machine)) × ([] ≡ (left_in b t limit k s m n).slips)
-unmoved_in true state.Watching t limit k m n e = absurd (clash e)
-unmoved_in true state.Waiting t limit k m n e = (refl, refl)
-unmoved_in true state.Claimed t limit k m n e = (refl, refl)
-unmoved_in true state.EndedUnderClaim t limit k m n e = (refl, refl)
-unmoved_in false state.Watching t limit k m n e = (refl, refl)
-unmoved_in false state.Waiting t limit k m n e = (refl, refl)
-unmoved_in false state.Claimed t limit k m n e = (refl, refl)
-unmoved_in false state.EndedUnderClaim t limit k m n e = (refl, refl)
 
 watching_by : (b : Bool) (s : OrderState) → true ≡ b && watching_in s → (b ≡ true) × (s ≡ state.Watching)
 watching_by true state.Watching e = (refl, refl)
@@ -53,17 +41,13 @@ kept_in true state.Claimed t m n u = cc
 kept_in true state.EndedUnderClaim t m n u = cc
 kept_in false s t m n u = refl
 
-pub watching_row : {C : Type 0} (share : ℕ) (r : Row C) → true ≡ watches_now share r → (eqb share r.terms.watched ≡ true) × (r.state ≡ state.Watching)
+watching_row : {C : Type 0} (share : ℕ) (r : Row C) → true ≡ watches_now share r → (eqb share r.terms.watched ≡ true) × (r.state ≡ state.Watching)
 watching_row share r e = watching_by (eqb share r.terms.watched) r.state e
 
 module _ {C : Type 0} (means : C → Meaning) (mk : Market) (share limit : ℕ) (k : Tick) (r : Row C) where
   -- the row stays as z, or goes, and these slips are written
-  abbrev pub Ticked : Bool → Row C → List Slip → Type 0
+  abbrev Ticked : Bool → Row C → List Slip → Type 0
   Ticked stays z slips = (kept stays (row_view means mk z) ≡ ticked_row share limit k (row_view means mk r)) × (slips ≡ (ticked_left share limit k (row_view means mk r)).slips)
-
-  -- a row that does not watch the share
-  pub unmoved : false ≡ watches_now share r → Ticked true r []
-  unmoved e = unmoved_in (eqb share r.terms.watched) r.state r.terms limit k (means r.condition) (notes_of mk r) e
 
   -- a row that watches it, where a is the answer and m the meaning after it
   left_answered : (a : Answer) (m : Meaning) → true ≡ watches_now share r → a ≡ means r.condition [] (event.Tick k) → m ≡ after (means r.condition) (event.Tick k ∷ [])
@@ -87,14 +71,3 @@ module _ {C : Type 0} (means : C → Meaning) (mk : Market) (share limit : ℕ) 
             ∙ ap (λ s. standing (record { terms = r.terms; machine = (ticked_left share limit k (row_view means mk r)).machine; claimed = claimed_in s })) (sym (watching_row share r e).1),
         hs ∙ ap (λ x. x.slips) l,
       )
-
-  -- the condition waits, and is x after the tick
-  pub waited : (x : C) → true ≡ watches_now share r → answer.Wait ≡ means r.condition [] (event.Tick k) → means x ≡ after (means r.condition) (event.Tick k ∷ [])
-      → Ticked true (record { terms = r.terms; state = r.state; sent = r.sent; market = r.market; condition = x }) []
-  waited x e ea em =
-      let w = (watching_row share r e).1 in
-      moved true (record { terms = r.terms; state = r.state; sent = r.sent; market = r.market; condition = x }) [] answer.Wait (means x) e ea em refl (ap claimed_in w) (ap (λ s. machine_in s (means x) (notes_of mk r)) w) refl
-
-  -- it lapses
-  pub lapsed : (x : C) → true ≡ watches_now share r → answer.Lapses ≡ means r.condition [] (event.Tick k) → means x ≡ after (means r.condition) (event.Tick k ∷ []) → Ticked false r []
-  lapsed x e ea em = moved false r [] answer.Lapses (means x) e ea em refl (ap claimed_in (watching_row share r e).1) refl refl

@@ -1,6 +1,6 @@
 -- A row that moves up by a swap.
 use Rattle.std.proofs.Common.{◌≡◌, ℕ, ◌+◌, ◌<◌, ◌≤◌, ◌⊎◌, List, [], ◌∷◌, ◌++◌, length, get_or, take, drop, set, sym, ap, ◌∙◌, inl, inr, eq-or-lt_of_le, arith}
-use Rattle.std.proofs.lemmas.List.{take_more_set, take-set-le, drop-set-lt, drop_more, set-set}
+use Rattle.std.proofs.lemmas.List.{take_more_set, take-set-le, drop_more, set-set}
 
 module _ {X : Type 0} where
   swap_take : (xs : List X) (k i : ℕ) (d : X) → (k ≡ i) ⊎ (k < i) → i < length xs → take (k + 1) (set (set xs k (get_or xs i d)) i (get_or xs k d)) ≡ take k xs ++ get_or xs i d ∷ []
@@ -14,10 +14,3 @@ module _ {X : Type 0} where
   swap_front [] ys k i b h s = absurd (omega arith)
   swap_front (x ∷ xs) ys k i b h s =
       ap (take (k + 1)) (s x) ∙ swap_take (x ∷ xs) k i x (eq-or-lt_of_le b) h ∙ ap (λ r. take k (x ∷ xs) ++ take 1 r) (sym (drop_more (x ∷ xs) i x h))
-
-  pub swap_rest : (xs ys : List X) (k i : ℕ) → k ≤ i → i < length xs → ((d : X) → ys ≡ set (set xs k (get_or xs i d)) i (get_or xs k d)) → drop (i + 1) ys ≡ drop (i + 1) xs
-  swap_rest [] ys k i b h s = absurd (omega arith)
-  swap_rest (x ∷ xs) ys k i b h s =
-      let l : i < i + 1 = omega arith in
-      let m : k < i + 1 = omega arith in
-      ap (drop (i + 1)) (s x) ∙ drop-set-lt (i + 1) _ i _ l ∙ drop-set-lt (i + 1) (x ∷ xs) k _ m

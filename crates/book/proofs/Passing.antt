@@ -2,19 +2,12 @@
 -- f is what a row stands for, `turn` what it becomes, nothing where it leaves, and `write` the slips that it writes.
 use Rattle.std.proofs.Common.{◌≡◌, ℕ, ◌+◌, ◌<◌, ◌≤◌, Bool, true, false, cond, List, [], ◌∷◌, ◌++◌, map, length, get_or, take, drop, set, count_by, sym, refl, ap, ◌∙◌, arith}
 use Rattle.std.specs.List.{flat_map}
-use Rattle.std.proofs.lemmas.List.{take-set-le, drop-set, drop-set-lt, drop-drop, at_drop_more, at_drop_all, map-append, append_assoc, append-nil, length-append, length-take-le, take-append-drop}
+use Rattle.std.proofs.lemmas.List.{take-set-le, drop-set, drop-set-lt, drop-drop, at_drop_more, map-append, append_assoc, length-append}
 use Rattle.std.proofs.lemmas.List.Sums.{sum_by-cons}
 
 module _ {X R : Type 0} (f : X → R) where
-  pub joined_from : {A : Type 0} (g : R → List A) (xs : List X) (i : ℕ) (d : X) → i < length xs → flat_map g (map f (drop i xs)) ≡ g (f (get_or xs i d)) ++ flat_map g (map f (drop (i + 1) xs))
+  joined_from : {A : Type 0} (g : R → List A) (xs : List X) (i : ℕ) (d : X) → i < length xs → flat_map g (map f (drop i xs)) ≡ g (f (get_or xs i d)) ++ flat_map g (map f (drop (i + 1) xs))
   joined_from g xs i d h = at_drop_more (λ r. flat_map g (map f r)) xs i d h
-
-  pub count_from : (p : R → Bool) (xs : List X) (i : ℕ) (d : X) → i < length xs → count_by p (map f (drop i xs)) ≡ cond (p (f (get_or xs i d))) 1 0 + count_by p (map f (drop (i + 1) xs))
-  count_from p xs i d h = at_drop_more (λ r. count_by p (map f r)) xs i d h ∙ sum_by-cons (λ y. cond (p y) 1 0) (f (get_or xs i d)) (map f (drop (i + 1) xs))
-
-  -- the same by the row that a `for` reads and by the test's result
-  pub count_more : (p : R → Bool) (xs : List X) (i : ℕ) (x : X) (b : Bool) → i < length xs → x ≡ get_or xs i x → b ≡ p (f x) → count_by p (map f (drop i xs)) ≡ cond b 1 0 + count_by p (map f (drop (i + 1) xs))
-  count_more p xs i x b h e t = count_from p xs i x h ∙ ap (λ z. cond z 1 0 + count_by p (map f (drop (i + 1) xs))) (sym (t ∙ ap (λ z. p (f z)) e))
 
   map_kept : (b : Bool) (r : X) → map f (cond b (r ∷ []) []) ≡ cond b (f r ∷ []) []
   map_kept true r = refl
@@ -62,22 +55,12 @@ module _ {X R : Type 0} {f : X → R} {turn : R → List R} {xs ys : List X} {k 
             ∙ t.table;
       }
 
-  -- all are told
-  pub turned_all : Turned f turn xs ys k i → length ys ≤ i → map f (take k ys) ≡ flat_map turn (map f xs)
-  turned_all t h = sym (append-nil (map f (take k ys))) ∙ sym (at_drop_all (λ z. map f (take k ys) ++ flat_map turn (map f z)) ys i h) ∙ t.table
-
 -- The same, with slip places that held ps: w slips are written.
 pub record Passing {X R S : Type 0} (f : X → R) (turn : R → List R) (write : R → List S) (xs ys : List X) (ps qs : List S) (k w i : ℕ) : Type 0 where
   pub rows : Turned f turn xs ys k i
   pub room : w + length (flat_map write (map f (drop i ys))) ≤ length ps
   pub slips : take w qs ++ flat_map write (map f (drop i ys)) ≡ flat_map write (map f xs)
   pub rest : drop w qs ≡ drop w ps
-
--- what the pass leaves
-pub record Passed {X R S : Type 0} (f : X → R) (turn : R → List R) (write : R → List S) (xs ys : List X) (ps qs : List S) (k w : ℕ) : Type 0 where
-  pub table : map f (take k ys) ≡ flat_map turn (map f xs)
-  pub written : w ≡ length (flat_map write (map f xs))
-  pub slips : qs ≡ flat_map write (map f xs) ++ drop w ps
 
 pub passing_none : {X R S : Type 0} {f : X → R} {write : R → List S} {xs : List X} {ps : List S} (turn : R → List R) → length (flat_map write (map f xs)) ≤ length ps → Passing f turn write xs xs ps ps 0 0 0
 passing_none turn h = record { rows = turned_none; room = omega arith; slips = refl; rest = refl }
@@ -95,9 +78,6 @@ module _ {X R S : Type 0} {f : X → R} {turn : R → List R} {write : R → Lis
       let c : w + length (flat_map write (map f (drop i ys))) ≤ length ps = p.room in
       omega arith
 
-  pub roomy : (d : X) (new : List S) → Passing f turn write xs ys ps qs k w i → i < length ys → new ≡ write (f (get_or ys i d)) → w + length new ≤ length ps
-  roomy d new p h new_is = omega (arith, room_from d new p h new_is)
-
   -- the turn at i: the row became r, then the slips became qs', then the rows became ys'
   pub passing_more : (ys' : List X) (qs' : List S) (k' w' : ℕ) (d r : X) (b : Bool) (new : List S) → Passing f turn write xs ys ps qs k w i → i < length ys → cond b (f r ∷ []) [] ≡ turn (f (get_or ys i d)) → new ≡ write (f (get_or ys i d)) → w' ≡ w + length new → take w' qs' ≡ take w qs ++ new → drop w' qs' ≡ drop w' qs → k' ≡ k + cond b 1 0 → take k' ys' ≡ take k (set ys i r) ++ cond b (take 1 (drop i (set ys i r))) [] → drop (i + 1) ys' ≡ drop (i + 1) (set ys i r) → Passing f turn write xs ys' ps qs' k' w' (i + 1)
   passing_more ys' qs' k' w' d r b new p h row_is new_is next written rest_is keep_next front back =
@@ -109,15 +89,4 @@ module _ {X R S : Type 0} {f : X → R} {turn : R → List R} {write : R → Lis
         room = rw (next, same) (room_from d new p h new_is);
         slips = ap (λ z. z ++ flat_map write (map f (drop (i + 1) ys'))) written ∙ append_assoc (take w qs) new (flat_map write (map f (drop (i + 1) ys'))) ∙ ap (λ z. take w qs ++ z) all ∙ p.slips;
         rest = rest_is ∙ further w w' (length new) qs ps next p.rest;
-      }
-
-  -- the pass is over
-  pub passing_all : Passing f turn write xs ys ps qs k w i → length ys ≤ i → length qs ≡ length ps → Passed f turn write xs ys ps qs k w
-  passing_all p h e =
-      let t : take w qs ≡ flat_map write (map f xs) = sym (append-nil (take w qs)) ∙ sym (at_drop_all (λ z. take w qs ++ flat_map write (map f z)) ys i h) ∙ p.slips in
-      let l : length (take w qs) ≡ w = length-take-le w qs (omega (arith, p.room)) in
-      record {
-        table = turned_all p.rows h;
-        written = sym l ∙ ap length t;
-        slips = sym (take-append-drop w qs) ∙ ap (λ z. z ++ drop w qs) t ∙ ap (λ z. flat_map write (map f xs) ++ z) p.rest;
       }

@@ -36,10 +36,10 @@ fn price_by(choice: PriceChoice, own: u32, levels: &Levels) -> u32
 pub(crate) fn price_asked(terms: &Terms, prices: Option<Levels>) -> u32
     ensures { result ≡ asks terms.now prices }
 {
-    let Ok(choice) = PriceChoice::try_from(terms.choice) else {
+    let (Ok(choice), Some(levels)) = (PriceChoice::try_from(terms.choice), prices) else {
         return 0;
     };
-    prices.map_or(0, |levels| price_by(choice, terms.own_price, &levels))
+    price_by(choice, terms.own_price, &levels)
 }
 
 // Whether a total is set, and what was sent before with this quantity exceeds it.

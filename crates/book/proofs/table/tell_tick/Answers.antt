@@ -1,25 +1,15 @@
 use Rattle.std.proofs.Common.{◌<◌, length, arith}
-use Rattle.std.proofs.lemmas.List.{length-set}
 use Rattle.market.specs.View.{market_of}
 use Rattle.book.specs.Turning.{slip_list, ticked_row}
 use Rattle.book.specs.View.{rows_view}
 use Rattle.book.proofs.Few.{ticked_slips_few}
-use Rattle.book.proofs.Passing.{passing_none, roomy, passing_more, passing_all}
+use Rattle.book.proofs.Passing.{passing_none, passing_more}
 use Rattle.book.proofs.table.tell_tick.Goals as goal
 
 pub loop-i-init : goal.loop-i-init
 loop-i-init g c =
     let few = ticked_slips_few c.args.share c.args.limit.value c.args.tick (rows_view g.C.Condition.meaning (market_of c.args.market.now.shares) c.args.rows.now) in
     passing_none (ticked_row c.args.share c.args.limit.value c.args.tick) (omega arith)
-
-pub write-written-requires : goal.write-written-requires
-write-written-requires g c =
-    let h : c.loop-i.i < length c.loop-i.rows = omega arith in
-    let r = roomy c.index-rows-i.result (slip_list c.tell_tick-told.result.slip) c.loop-i.invariant h c.tell_tick-told.ensures.slips in
-    omega arith
-
-pub keep-stay-requires : goal.keep-stay-requires
-keep-stay-requires g c = record { behind = c.loop-i.invariant.rows.behind; within = simp length-set (omega arith) }
 
 pub loop-i-preserved : goal.loop-i-preserved
 loop-i-preserved g c =
@@ -29,9 +19,3 @@ loop-i-preserved g c =
     c.tell_tick-told.ensures.row c.tell_tick-told.ensures.slips
     c.write-written.ensures.next c.write-written.ensures.written c.write-written.ensures.rest
     c.keep-stay.ensures.next c.keep-stay.ensures.front c.keep-stay.ensures.rest
-
-pub returns : goal.returns
-returns g c =
-    let p = passing_all c.loop-i.invariant (omega arith) c.loop-i.auto.slips in
-    let b = c.loop-i.invariant.rows.behind in
-    record { within = omega arith; table = p.table; written = p.written; slips = p.slips }

@@ -1,23 +1,18 @@
 use Rattle.market.specs.View.{market_of}
 use Rattle.book.specs.View.{view, setup_of}
-use Rattle.book.proofs.Bursts.{burst_all, burst_err, burst_more}
+use Rattle.book.proofs.Bursts.{burst_err, burst_more}
 use Rattle.book.proofs.book.Book.burst.Goals as goal
 
-pub returns-in-Err : goal.returns-in-Err
-returns-in-Err g c =
+pub returns-in-Err-clause-step : goal.returns-in-Err-clause-step
+returns-in-Err-clause-step g c =
     let p = c.loop-quote.invariant in
     let s = view g.C.Condition.meaning (market_of c.quote.new.market.shares) c.quote.new.self in
     let told = c.in-Err.ensures in
     let d = burst_err p c.loop-quote.auto.slips _ c.loop-quote-test.true (setup_of c.quote.new.self) s c.quote.new.slips told.step.setup c.in-Err.fault told.step.is_step told.rest in
-    record { step = record { is_step = d.0; setup = d.2 }; count = p.within; rest = d.1 }
+    record { is_step = d.0; setup = d.1 }
 
 pub loop-quote-preserved : goal.loop-quote-preserved
 loop-quote-preserved g c =
     let s = view g.C.Condition.meaning (market_of c.quote.new.market.shares) c.quote.new.self in
     let told = c.in-Ok.ensures in
     burst_more c.loop-quote.invariant c.loop-quote.auto.slips _ c.loop-quote-test.true (setup_of c.quote.new.self) s c.quote.new.slips told.step.setup c.in-Ok.count told.step.is_step told.count c.quote.auto.slips told.rest
-
-pub returns : goal.returns
-returns g c =
-    let p = c.loop-quote.invariant in
-    record { step = record { is_step = burst_all p c.loop-quote.auto.slips c.loop-quote-test.false; setup = p.setup }; count = p.within; rest = p.rest }

@@ -1,29 +1,12 @@
-use Rattle.std.proofs.Common.{◌≡◌, ℕ, Bool, false, sym, refl, ap, ◌∙◌}
-use Rattle.std.proofs.lemmas.Bool.{ne_eqb}
+use Rattle.std.proofs.Common.{◌≡◌, ℕ, Bool, false, sym, ap, ◌∙◌}
 use Rattle.rules.specs.Book.{step}
 use Rattle.rules.specs.Calls.{Ticket, settling, single}
-use Rattle.book.specs.View.{view, setup_of, right_of}
-use Rattle.book.proofs.ByNumber.{settle_void, settle_elsewhere}
+use Rattle.book.specs.View.{view, setup_of}
 use Rattle.book.proofs.book.Book.settle.Goals as goal
 
 -- a ticket by its parts
 ticket_is : (v w : Bool) (a b j k : ℕ) → v ≡ w → a ≡ b → j ≡ k → ◌≡◌ {A = Ticket} (record { void = v; book = a; number = j }) (record { void = w; book = b; number = k })
 ticket_is v w a b j k p q r = cc
-
-pub returns-then-is_void : goal.returns-then-is_void
-returns-then-is_void g c =
-    let b = c.args.self.now in
-    let m = g.C.Condition.meaning in
-    let void = sym (ap (λ t. t.void) c.spend.ensures) ∙ sym c.is_void.ensures ∙ c.if-is_void.true in
-    λ mk. record { is_step = settle_void (setup_of b) (view m mk b) (right_of c.args.ticket) c.args.fill void; setup = refl }
-
-pub returns-then-book-self : goal.returns-then-book-self
-returns-then-book-self g c =
-    let b = c.args.self.now in
-    let m = g.C.Condition.meaning in
-    let void = sym (ap (λ t. t.void) c.spend.ensures) ∙ sym c.is_void.ensures ∙ c.if-is_void.false in
-    let other = ne_eqb c.args.ticket.book b.number (λ e. c.if-book-self.true (c.book.ensures ∙ ap (λ t. t.book) c.spend.ensures ∙ e)) in
-    λ mk. record { is_step = settle_elsewhere (setup_of b) (view m mk b) (right_of c.args.ticket) c.args.fill void other; setup = refl }
 
 pub returns : goal.returns
 returns g c =

@@ -3,24 +3,8 @@ use Rattle.conditions.specs.declared.event.Answer.TheVariants as answer
 use Rattle.market.specs.View.{market_of}
 use Rattle.rules.specs.Market.{prices_of}
 use Rattle.book.specs.Turning.{slip_list}
-use Rattle.book.proofs.Firing.{watching_row, unmoved, moved, waited, lapsed}
+use Rattle.book.proofs.Firing.{moved}
 use Rattle.book.proofs.row.Row.tell_tick.Goals as goal
-
-pub returns-then-not-watches : goal.returns-then-not-watches
-returns-then-not-watches g c =
-    let mk = market_of c.args.market.now.shares in
-    let z = unmoved g.C.Condition.meaning mk c.args.share c.args.limit.value c.args.tick c.args.self.now c.if-not-watches.ensures in
-    record { row = z.0; slips = z.1 }
-
-pub fire-requires : goal.fire-requires
-fire-requires g c = (watching_row c.args.share c.args.self.now c.if-not-watches.ensures).1
-
-pub returns-in-Wait : goal.returns-in-Wait
-returns-in-Wait g c =
-    let mk = market_of c.args.market.now.shares in
-    let told = c.in-Wait.ensures in
-    let z = waited g.C.Condition.meaning mk c.args.share c.args.limit.value c.args.tick c.args.self.now c.tell.new.self c.if-not-watches.ensures told.answers told.follows in
-    record { row = z.0; slips = z.1 }
 
 pub returns-in-Fires : goal.returns-in-Fires
 returns-in-Fires g c =
@@ -32,11 +16,4 @@ returns-in-Fires g c =
     let z = moved means mk c.args.share c.args.limit.value c.args.tick c.args.self.now c.fire.result.stays c.fire.new.self (slip_list c.fire.result.slip) (answer.Fires c.in-Fires.fire) (means c.tell.new.self) c.if-not-watches.ensures
     told.answers told.follows fired.terms fired.unclaimed (fired.machine mk p) (fired.slips mk p)
     in
-    record { row = z.0; slips = z.1 }
-
-pub returns-in-Lapses : goal.returns-in-Lapses
-returns-in-Lapses g c =
-    let mk = market_of c.args.market.now.shares in
-    let told = c.in-Lapses.ensures in
-    let z = lapsed g.C.Condition.meaning mk c.args.share c.args.limit.value c.args.tick c.args.self.now c.tell.new.self c.if-not-watches.ensures told.answers told.follows in
     record { row = z.0; slips = z.1 }
