@@ -188,6 +188,7 @@ impl<'a, C: Condition + Copy> Runner<'a, C> {
         requires { vec_len replies.old + deque_len self.held ≤ vec_capacity replies.old }
         ensures { replies.new.items ≡ replies.old.items ++ map reply_of (outcomes C.Condition.meaning (desk_setup self.entry.desk) (point_of C.Condition.meaning self.entry 0) []) }
     {
+        // No `for`: its iterator would drop the tickets that are left, and only a spent ticket may be let go.
         while let Some(ticket) = self.held.pop_front() {
             let reply = self.spend(ticket, None);
             replies.push_reserved(reply);
@@ -210,6 +211,7 @@ pub fn replay<'r, C: Condition + Copy>(
 ) -> Result<Replayed, AllocError>
     ensures { MatchResult result (λ x. Replays C.Condition.meaning (record { rows = length rows.entry.now; limit = limit.value; book = number }) requests.now x.replies.items x.written slips.old slips.new) (λ _. slips.new ≡ slips.old) }
 {
+    // a reply for each request, and one for each ticket that may then still be held
     let n = requests.len();
     let room = n.checked_add(n).ok_or(AllocError)?;
     let mut replies = Vec::with_capacity(heap, room)?;
