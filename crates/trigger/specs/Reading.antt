@@ -1,8 +1,9 @@
 -- Which value each kind of word writes, if it writes one. Assumes nothing.
 -- A text is the list of its bytes: 35 is `#`, 37 is `%` and 58 is `:`.
-use Rattle.std.specs.Prelude.{ℕ, ◌+◌, ◌-◌, ◌*◌, ◌^◌, cond, ◌&&◌, List, [], ◌∷◌, length, take, Some, None, Option, ◌==◌, nat_lt, slice_index}
+use Rattle.std.specs.Prelude.{ℕ, ◌+◌, ◌-◌, ◌*◌, ◌^◌, cond, ◌&&◌, List, length, take, Some, None, Option, ◌==◌, nat_lt, slice_index}
 use Rattle.std.specs.Borrow.{Bor}
-use Rattle.std.specs.Option.{option_map}
+use Rattle.std.specs.List.{position_or_len, before_first, after_first}
+use Rattle.std.specs.Option.{option_map, option_and_then}
 use Rattle.std.specs.Result.{result_ok}
 use Rattle.values.specs.Decimals.{decimal_read}
 use Rattle.trigger.specs.declared.words.StepLine.{StepLine}
@@ -10,8 +11,9 @@ use Rattle.trigger.specs.declared.words.StepLine.TheVariants.{Percent, Differenc
 
 -- what stands before and after the first c, if there is one
 abbrev pub parted : ℕ → List ℕ → Option (List ℕ × List ℕ)
-parted c [] = None
-parted c (d ∷ ds) = cond (d == c) (Some ([], ds)) (option_map (λ p. (d ∷ p.0, p.1)) (parted c ds))
+parted c text = cond (nat_lt (position_or_len (λ d. d == c) text) (length text))
+    (Some (before_first (λ d. d == c) text, after_first (λ d. d == c) text))
+    None
 
 -- the two texts that two references point to
 abbrev pub both : Option (Bor (List ℕ) × Bor (List ℕ)) → Option (List ℕ × List ℕ)
@@ -22,12 +24,8 @@ abbrev pub before_sign : List ℕ → Option (List ℕ)
 before_sign text = cond (slice_index text (length text - 1) == 37) (Some (take (length text - 1) text)) None
 
 -- the line without its comment
-abbrev pub uncommented_of : List ℕ → Option (List ℕ × List ℕ) → List ℕ
-uncommented_of text None = text
-uncommented_of text (Some p) = p.0
-
 abbrev pub uncommented : List ℕ → List ℕ
-uncommented text = uncommented_of text (parted 35 text)
+uncommented text = before_first (λ d. d == 35) text
 
 -- the whole number that a text writes
 abbrev pub whole_read : List ℕ → Option ℕ
@@ -35,20 +33,15 @@ whole_read text = result_ok (decimal_read 0 text)
 
 -- the number that was read, where it is below the limit of its field
 abbrev pub fitting : ℕ → Option ℕ → Option ℕ
-fitting limit None = None
-fitting limit (Some n) = cond (nat_lt n limit) (Some n) None
+fitting limit read = option_and_then (λ n. cond (nat_lt n limit) (Some n) None) read
 
 -- a price, in ten-thousandths of a yuan
 abbrev pub price_read : List ℕ → Option ℕ
 price_read text = result_ok (decimal_read 4 text)
 
 -- a percentage, in its hundredths, from the number before its sign
-abbrev pub percent_of : Option (List ℕ) → Option ℕ
-percent_of None = None
-percent_of (Some number) = result_ok (decimal_read 2 number)
-
 abbrev pub percent_read : List ℕ → Option ℕ
-percent_read text = percent_of (before_sign text)
+percent_read text = option_and_then (λ number. result_ok (decimal_read 2 number)) (before_sign text)
 
 -- a step: a percentage where there is a sign, and otherwise a price
 abbrev pub step_of : List ℕ → Option (List ℕ) → Option StepLine

@@ -1,11 +1,13 @@
 // What is printed: the answers to the lines, and the slips.
-use crate::line::BookName;
+use crate::line::{BookName, OrderLine, PlaceLine};
 use crate::unreadable::Unreadable;
 use book::burst::Burst;
 use conditions::event::Side;
 use rules::fault::{MarketFault, PlacingFault};
 use rules::slip::{Outcome, Slip};
+use rules::state::OrderState;
 use std::{fmt, io};
+use thiserror::Error;
 use values::decimal::Yuan;
 use values::fault::MakingFault;
 
@@ -15,7 +17,16 @@ pub(crate) enum Head {
     Word(&'static str),
     Share(&'static str, u8),
     Day(u8, u16),
-    Order(&'static str, BookName, u32),
+    Place(BookName, u32),
+    Order(OrderLine),
+    // a ticket that is settled at the end
+    End(BookName, u32),
+}
+
+impl Head {
+    pub(crate) fn of_place(line: &PlaceLine) -> Head {
+        Head::Place(line.kind.book(), line.terms.number)
+    }
 }
 
 impl fmt::Display for Head {
@@ -24,83 +35,77 @@ impl fmt::Display for Head {
             Head::Word(word) => f.write_str(word),
             Head::Share(word, share) => write!(f, "{word} {share}"),
             Head::Day(share, number) => write!(f, "day {share} {number}"),
-            Head::Order(word, book, number) => {
-                let book = book.word();
-                write!(f, "{word} {book} {number}")
-            }
+            Head::Place(book, number) => write!(f, "place {book} {number}"),
+            Head::Order(order) => write!(f, "{} {} {}", order.ask, order.book, order.number),
+            Head::End(book, number) => write!(f, "end: settle {book} {number}"),
         }
     }
 }
 
-// What a line is answered with.
+// What a line is answered with where nothing refuses it.
 #[derive(Clone, Copy)]
-pub(crate) enum Answer {
+pub(crate) enum Granted {
     Done,
-    // a value could not be made, and so no call was
-    Making(MakingFault),
-    Market(MarketFault),
-    Placing(PlacingFault),
     // how many slips a quote wrote
     Slips(usize),
     Burst(Burst),
     Ticket,
     VoidTicket,
-    NoTicket,
-    // the number of an order's state
-    State(u8),
+    // nothing where the order is not in the book
+    State(Option<OrderState>),
 }
 
-impl Answer {
-    pub(crate) fn of_market(done: Result<(), MarketFault>) -> Answer {
-        match done {
-            Ok(()) => Answer::Done,
-            Err(fault) => Answer::Market(fault),
-        }
-    }
-
-    pub(crate) fn of_placing(done: Result<(), PlacingFault>) -> Answer {
-        match done {
-            Ok(()) => Answer::Done,
-            Err(fault) => Answer::Placing(fault),
-        }
-    }
-}
-
-impl fmt::Display for Answer {
+impl fmt::Display for Granted {
     fn fmt<W: fmt::Write>(&self, f: &mut fmt::Formatter<W>) -> fmt::Result {
         match self {
-            Answer::Done => f.write_str("ok"),
-            Answer::Making(fault) => {
-                let number = fault.number();
-                write!(f, "refused {number}: {fault}")
-            }
-            Answer::Market(fault) => {
-                let number = fault.number();
-                write!(f, "refused {number}: {fault}")
-            }
-            Answer::Placing(fault) => {
-                let number = fault.number();
-                write!(f, "refused {number}: {fault}")
-            }
-            Answer::Slips(count) => write!(f, "{count}"),
-            Answer::Burst(burst) => {
-                let taken = burst.taken;
-                let written = burst.written;
-                let stop = match burst.stop {
-                    Some(fault) => fault.number(),
-                    None => 0,
-                };
-                write!(f, "taken {taken} slips {written} stop {stop}")
-            }
-            Answer::Ticket => f.write_str("ticket"),
-            Answer::VoidTicket => f.write_str("void"),
-            Answer::NoTicket => f.write_str("no ticket"),
-            Answer::State(number) => write!(f, "{number}"),
+            Granted::Done => f.write_str("ok"),
+            Granted::Slips(count) => write!(f, "{count}"),
+            Granted::Burst(burst) => write!(
+                f,
+                "taken {} slips {} stop {}",
+                burst.taken,
+                burst.written,
+                burst.stop.map_or(0, |fault| fault.number())
+            ),
+            Granted::Ticket => f.write_str("ticket"),
+            Granted::VoidTicket => f.write_str("void"),
+            Granted::State(state) => write!(f, "{}", state.map_or(0, |state| state.number())),
+        }
+    }
+}
+
+// Why a line is refused.
+#[derive(Clone, Copy, Debug, Error)]
+pub(crate) enum Refusal {
+    // A value could not be made, and so no call was.
+    #[error("refused {}: {}", .0.number(), .0)]
+    Making(#[from] MakingFault),
+    #[error("refused {}: {}", .0.number(), .0)]
+    Market(#[from] MarketFault),
+    #[error("refused {}: {}", .0.number(), .0)]
+    Placing(#[from] PlacingFault),
+    #[error("no ticket")]
+    NoTicket,
+}
+
+// What a line is answered with.
+pub(crate) type Answer = Result<Granted, Refusal>;
+
+// An answer as it is printed.
+#[derive(Clone, Copy)]
+pub(crate) struct Shown(pub(crate) Answer);
+
+impl fmt::Display for Shown {
+    fn fmt<W: fmt::Write>(&self, f: &mut fmt::Formatter<W>) -> fmt::Result {
+        match &self.0 {
+            Ok(granted) => write!(f, "{granted}"),
+            Err(refusal) => write!(f, "{refusal}"),
         }
     }
 }
 
 pub(crate) fn print_answer(rt: &HostRuntime, head: Head, answer: Answer) -> io::Result<()> {
+    let answer = Shown(answer);
     println!(rt; "{head}: {answer}")
 }
 
@@ -112,24 +117,33 @@ pub(crate) fn print_unreadable(
     println!(rt; "line {number}: unreadable: {reason}")
 }
 
-pub(crate) fn print_slip(rt: &HostRuntime, book: &str, slip: &Slip) -> io::Result<()> {
-    let number = slip.number;
-    let moment = slip.moment;
-    let side = match slip.side {
+// The words of a side and of an outcome are this program's own: those two types are the core's, which knows them by number.
+fn side_word(side: Side) -> &'static str {
+    match side {
         Side::Buy => "buy",
         Side::Sell => "sell",
-    };
-    let trigger = slip.trigger;
-    let market = slip.market;
-    let price = Yuan(slip.price);
-    let quantity = slip.quantity;
-    let outcome = match slip.outcome {
+    }
+}
+
+fn outcome_word(outcome: Outcome) -> &'static str {
+    match outcome {
         Outcome::Sent => "sent",
         Outcome::Withheld => "withheld",
         Outcome::Unpriced => "unpriced",
         Outcome::Exceeded => "exceeded",
-    };
+    }
+}
+
+pub(crate) fn print_slip(rt: &HostRuntime, book: BookName, slip: &Slip) -> io::Result<()> {
     println!(rt;
-        "slip {book} {number} at {moment} {side} trigger {trigger} market {market} price {price} quantity {quantity} {outcome}"
+        "slip {book} {} at {} {} trigger {} market {} price {} quantity {} {}",
+        slip.number,
+        slip.moment,
+        side_word(slip.side),
+        slip.trigger,
+        slip.market,
+        Yuan(slip.price),
+        slip.quantity,
+        outcome_word(slip.outcome)
     )
 }

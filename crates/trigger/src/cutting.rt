@@ -4,6 +4,7 @@ ghost use Rattle.std.specs.Option.{option_map};
 ghost use Rattle.trigger.specs.Reading.{parted, both, before_sign};
 
 // What stands before and after the first such character, if there is one.
+#[tactic(auto, using(std::proofs::lemmas::Str::Pattern::split_once_first))]
 pub(crate) fn cut_at(text: &str, mark: char) -> Option<(&str, &str)>
     requires { mark < 128 }
     ensures { both result ≡ parted mark text.now }

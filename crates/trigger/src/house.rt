@@ -1,5 +1,5 @@
 // The house's two books, what the lines make of them, and the tickets that it holds.
-use crate::answering::{Answer, Head, print_answer, print_unreadable};
+use crate::answering::{Answer, Granted, Head, Shown, print_answer, print_unreadable};
 use crate::line::{BookName, Line, OrderLine, PlaceLine};
 use crate::making::{Made, condition_of};
 use crate::settings::Settings;
@@ -14,6 +14,32 @@ use std::alloc::{AllocError, Global};
 use std::collections::VecDeque;
 use std::io;
 
+// A burst that is being read.
+#[derive(Drop)]
+struct Gathering {
+    quotes: Vec<Quote>,
+    // how many of its lines are still to come
+    coming: u32,
+}
+
+impl Gathering {
+    // Takes one of the burst's lines.
+    fn gather(
+        &mut self,
+        rt: &HostRuntime,
+        number: u64,
+        read: Result<Line, Unreadable>,
+    ) -> io::Result<()> {
+        match read {
+            Ok(Line::Quote(quote)) => self.quotes.push(quote)?,
+            Ok(_) => print_unreadable(rt, number, Unreadable::NotQuote)?,
+            Err(reason) => print_unreadable(rt, number, reason)?,
+        }
+        self.coming = self.coming.saturating_sub(1);
+        Ok(())
+    }
+}
+
 // It cannot be let go: `close` settles the tickets that it still holds.
 pub(crate) struct House<'a> {
     single: SlipDesk<'a, Pile<SingleShot>>,
@@ -22,9 +48,7 @@ pub(crate) struct House<'a> {
     places: usize,
     // how many slips were printed
     printed: u64,
-    // the quotes of a burst that is being read, and how many of its lines are still to come
-    quotes: Vec<Quote>,
-    coming: u32,
+    gathering: Option<Gathering>,
     // the oldest first
     tickets: VecDeque<Ticket>,
 }
@@ -41,19 +65,18 @@ impl<'a> House<'a> {
             grid: SlipDesk::new(heap, grid, BookName::Grid, settings.limit),
             places: settings.places as usize,
             printed: 0,
-            quotes: Vec::new(heap),
-            coming: 0,
+            gathering: None,
             tickets: VecDeque::new(heap),
         }
     }
 
     // Makes a call of both books, and prints their answers and then their slips.
     fn call_both(&mut self, rt: &HostRuntime, head: Head, call: Call) -> io::Result<()> {
-        let single = self.single.hear(call, self.places)?;
-        let grid = self.grid.hear(call, self.places)?;
+        let single = Shown(self.single.hear(call, self.places)?);
+        let grid = Shown(self.grid.hear(call, self.places)?);
         println!(rt; "{head}: single {single}, grid {grid}")?;
-        let first = self.single.print_slips(rt, "single")?;
-        let second = self.grid.print_slips(rt, "grid")?;
+        let first = self.single.print_slips(rt, BookName::Single)?;
+        let second = self.grid.print_slips(rt, BookName::Grid)?;
         self.printed = self
             .printed
             .saturating_add(first as u64)
@@ -62,11 +85,7 @@ impl<'a> House<'a> {
     }
 
     fn place(&mut self, line: &PlaceLine) -> Answer {
-        let made = match condition_of(line) {
-            Ok(made) => made,
-            Err(fault) => return Answer::Making(fault),
-        };
-        match made {
+        match condition_of(line)? {
             Made::Single(condition) => self.single.place(line.terms, condition),
             Made::Repeating(condition) => self.grid.place(line.terms, condition),
         }
@@ -79,29 +98,16 @@ impl<'a> House<'a> {
         }
     }
 
-    // Makes a burst of the quotes that were read for it.
-    fn burst(&mut self, rt: &HostRuntime) -> io::Result<()> {
-        self.coming = 0;
-        let quotes = std::mem::replace(&mut self.quotes, Vec::new(rt.alloc()));
-        self.call_both(rt, Head::Word("burst"), Call::Burst(quotes.as_slice()))
+    fn burst(&mut self, rt: &HostRuntime, quotes: &[Quote]) -> io::Result<()> {
+        self.call_both(rt, Head::Word("burst"), Call::Burst(quotes))
     }
 
-    // Takes one of a burst's lines, and makes the burst after its last.
-    fn gather(
-        &mut self,
-        rt: &HostRuntime,
-        number: u64,
-        read: Result<Line, Unreadable>,
-    ) -> io::Result<()> {
-        match read {
-            Ok(Line::Quote(quote)) => self.quotes.push(quote)?,
-            Ok(_) => print_unreadable(rt, number, Unreadable::NotQuote)?,
-            Err(reason) => print_unreadable(rt, number, reason)?,
+    // Goes on with a burst: makes it after the last of its lines, and until then keeps it.
+    fn go_on(&mut self, rt: &HostRuntime, gathering: Gathering) -> io::Result<()> {
+        if gathering.coming == 0 {
+            return self.burst(rt, gathering.quotes.as_slice());
         }
-        self.coming = self.coming.saturating_sub(1);
-        if self.coming == 0 {
-            return self.burst(rt);
-        }
+        self.gathering = Some(gathering);
         Ok(())
     }
 
@@ -110,7 +116,7 @@ impl<'a> House<'a> {
             Line::Limit(_) | Line::Rows(_) => print_unreadable(rt, number, Unreadable::TooLate),
             Line::Places(places) => {
                 self.places = *places as usize;
-                print_answer(rt, Head::Word("places"), Answer::Done)
+                print_answer(rt, Head::Word("places"), Ok(Granted::Done))
             }
             Line::List { share, closes } => self.call_both(
                 rt,
@@ -120,31 +126,23 @@ impl<'a> House<'a> {
             Line::Day(day) => self.call_both(rt, Head::Day(day.share, day.number), Call::Day(*day)),
             Line::Place(place) => {
                 let answer = self.place(place);
-                print_answer(
-                    rt,
-                    Head::Order("place", place.book, place.terms.number),
-                    answer,
-                )
+                print_answer(rt, Head::of_place(place), answer)
             }
             Line::Quote(quote) => self.call_both(
                 rt,
                 Head::Share("quote", quote.share),
                 Call::Quote(*quote),
             ),
-            Line::Burst(lines) => {
-                self.coming = *lines;
-                if *lines == 0 {
-                    return self.burst(rt);
-                }
-                Ok(())
-            }
+            Line::Burst(lines) => self.go_on(
+                rt,
+                Gathering {
+                    quotes: Vec::new(rt.alloc()),
+                    coming: *lines,
+                },
+            ),
             Line::Order(order) => {
                 let answer = self.ask(order)?;
-                print_answer(
-                    rt,
-                    Head::Order(order.ask.word(), order.book, order.number),
-                    answer,
-                )
+                print_answer(rt, Head::Order(*order), answer)
             }
         }
     }
@@ -156,8 +154,9 @@ impl<'a> House<'a> {
         number: u64,
         read: Result<Line, Unreadable>,
     ) -> io::Result<()> {
-        if self.coming > 0 {
-            return self.gather(rt, number, read);
+        if let Some(mut gathering) = self.gathering.take() {
+            gathering.gather(rt, number, read)?;
+            return self.go_on(rt, gathering);
         }
         match read {
             Ok(line) => self.answer(rt, number, &line),
@@ -167,10 +166,10 @@ impl<'a> House<'a> {
 
     // Makes the burst that the end of the input cut short, if there is one.
     pub(crate) fn end_burst(&mut self, rt: &HostRuntime) -> io::Result<()> {
-        if self.coming > 0 {
-            return self.burst(rt);
+        match self.gathering.take() {
+            Some(gathering) => self.burst(rt, gathering.quotes.as_slice()),
+            None => Ok(()),
         }
-        Ok(())
     }
 
     // Settles each ticket still held with nothing filled, the oldest first. What follows is printed only if all went well before.
@@ -180,8 +179,7 @@ impl<'a> House<'a> {
             mut grid,
             places: _,
             printed,
-            quotes: _,
-            coming: _,
+            gathering: _,
             mut tickets,
         } = self;
         let mut done = before;
@@ -193,7 +191,7 @@ impl<'a> House<'a> {
                 (BookName::Single, single.give_up(ticket))
             };
             if done.is_ok() {
-                done = print_answer(rt, Head::Order("end: settle", book, number), answer);
+                done = print_answer(rt, Head::End(book, number), answer);
             }
         }
         tickets.destroy_empty();

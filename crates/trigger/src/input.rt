@@ -7,10 +7,11 @@ use std::io::Read;
 use std::{env, fs, io};
 
 pub(crate) fn asks_for_help(rt: &HostRuntime) -> io::Result<bool> {
-    match env::args(rt)?.nth(1) {
-        Some(word) => Ok(word.as_str() == "--help"),
-        None => Ok(false),
-    }
+    Ok(
+        env::args(rt)?
+            .nth(1)
+            .is_some_and(|word| word.as_str() == "--help"),
+    )
 }
 
 // The bytes of the file that the first argument names, or of the standard input where there is none.
@@ -33,12 +34,10 @@ fn line_end(bytes: &[u8]) -> usize
     ensures before { (k : ℕ) → k < result → slice_index bytes.now k ≢ 10 }
     ensures found { result < length bytes.now → slice_index bytes.now result ≡ 10 }
 {
-    for (i, b) in bytes.iter().enumerate() {
-        if *b == b'\n' {
-            return i;
-        }
-    }
-    bytes.len()
+    bytes
+        .iter()
+        .position(|b| *b == b'\n')
+        .unwrap_or(bytes.len())
 }
 
 // A line of the input without its newline, and its number from 1.
@@ -92,8 +91,5 @@ impl<'a> Iterator for ByteLines<'a> {
 pub(crate) fn text_of(bytes: &[u8]) -> Result<&str, Unreadable>
     ensures { MatchResult result (λ text. text.now ≡ bytes.now) (λ _. IsUtf8 bytes.now → ⊥) }
 {
-    match std::str::from_utf8(bytes) {
-        Ok(text) => Ok(text),
-        Err(_) => Err(Unreadable::NotText),
-    }
+    std::str::from_utf8(bytes).map_err(|_| Unreadable::NotText)
 }

@@ -1,6 +1,7 @@
 // The kinds of orders as a line writes them.
-use crate::unreadable::Unreadable;
-use crate::words::{StepLine, Words};
+use crate::line::BookName;
+use crate::unreadable::{Unreadable, WordFault};
+use crate::words::{StepLine, Words, read_number, read_percent, read_price, read_step};
 use conditions::event::Side;
 use kinds::order_kind::OrderKind;
 use kinds::trail::TrailOptions;
@@ -10,6 +11,21 @@ use kinds::trail::TrailOptions;
 pub(crate) enum Way {
     Up,
     Down,
+}
+
+// A level to reach.
+#[derive(Clone, Copy)]
+pub(crate) struct LevelLine {
+    pub(crate) way: Way,
+    pub(crate) price: u32,
+    pub(crate) side: Side,
+}
+
+// How far the price is to move in a day.
+#[derive(Clone, Copy)]
+pub(crate) enum DistanceLine {
+    Percent(u32),
+    Limit,
 }
 
 // A price to reach, and the way back from the best one since that makes the order.
@@ -28,6 +44,13 @@ pub(crate) struct ExitLine {
     pub(crate) trail: Option<StepLine>,
 }
 
+// What the base of a grid follows.
+#[derive(Clone, Copy)]
+pub(crate) enum GridMode {
+    Market,
+    Fill,
+}
+
 #[derive(Clone, Copy)]
 pub(crate) struct GridLine {
     pub(crate) low: u32,
@@ -35,25 +58,16 @@ pub(crate) struct GridLine {
     pub(crate) base: u32,
     pub(crate) down: StepLine,
     pub(crate) up: StepLine,
-    // Whether the base follows the fill, and not the market.
-    pub(crate) fill: bool,
+    pub(crate) mode: GridMode,
 }
 
 #[derive(Clone, Copy)]
 pub(crate) enum KindLine {
-    Level {
-        linked: bool,
+    Level(LevelLine),
+    Linked(LevelLine),
+    Move {
         way: Way,
-        price: u32,
-        side: Side,
-    },
-    MovePercent {
-        way: Way,
-        percent: u32,
-        side: Side,
-    },
-    MoveLimit {
-        way: Way,
+        distance: DistanceLine,
         side: Side,
     },
     Average {
@@ -76,12 +90,9 @@ pub(crate) enum KindLine {
 impl KindLine {
     pub(crate) fn order_kind(&self) -> OrderKind {
         match self {
-            KindLine::Level { linked, .. } => if *linked {
-                OrderKind::Linked
-            } else {
-                OrderKind::Level
-            },
-            KindLine::MovePercent { .. } | KindLine::MoveLimit { .. } => OrderKind::DayMove,
+            KindLine::Level(_) => OrderKind::Level,
+            KindLine::Linked(_) => OrderKind::Linked,
+            KindLine::Move { .. } => OrderKind::DayMove,
             KindLine::Average { .. } => OrderKind::Average,
             KindLine::Rebound(_) => OrderKind::Rebound,
             KindLine::FallBack(_) => OrderKind::FallBack,
@@ -90,42 +101,45 @@ impl KindLine {
             KindLine::Grid(_) => OrderKind::Grid,
         }
     }
+
+    // The book that holds orders of this kind.
+    pub(crate) fn book(&self) -> BookName {
+        match self {
+            KindLine::Batch { .. } | KindLine::Grid(_) => BookName::Grid,
+            _ => BookName::Single,
+        }
+    }
 }
 
 fn read_way(words: &mut Words) -> Result<Way, Unreadable> {
-    match words.word()? {
-        "up" => Ok(Way::Up),
-        "down" => Ok(Way::Down),
-        _ => Err(Unreadable::none_of("way", "up or down")),
-    }
+    words.either("way", ("up", Way::Up), ("down", Way::Down))
 }
 
 fn read_side(words: &mut Words) -> Result<Side, Unreadable> {
-    match words.word()? {
-        "buy" => Ok(Side::Buy),
-        "sell" => Ok(Side::Sell),
-        _ => Err(Unreadable::none_of("side", "buy or sell")),
-    }
+    words.either("side", ("buy", Side::Buy), ("sell", Side::Sell))
 }
 
-fn read_level(words: &mut Words, linked: bool) -> Result<KindLine, Unreadable> {
-    Ok(KindLine::Level {
-        linked,
+fn read_level(words: &mut Words) -> Result<LevelLine, Unreadable> {
+    Ok(LevelLine {
         way: read_way(words)?,
-        price: words.price("price")?,
+        price: words.field("price", read_price)?,
         side: read_side(words)?,
     })
 }
 
-fn read_move(words: &mut Words) -> Result<KindLine, Unreadable> {
-    let way = read_way(words)?;
+fn read_distance(words: &mut Words) -> Result<DistanceLine, Unreadable> {
     if words.takes("limit") {
-        let side = read_side(words)?;
-        return Ok(KindLine::MoveLimit { way, side });
+        return Ok(DistanceLine::Limit);
     }
-    Ok(KindLine::MovePercent {
-        way,
-        percent: words.percent("percent")?,
+    words
+        .field("percent", read_percent)
+        .map(DistanceLine::Percent)
+}
+
+fn read_move(words: &mut Words) -> Result<KindLine, Unreadable> {
+    Ok(KindLine::Move {
+        way: read_way(words)?,
+        distance: read_distance(words)?,
         side: read_side(words)?,
     })
 }
@@ -133,16 +147,16 @@ fn read_move(words: &mut Words) -> Result<KindLine, Unreadable> {
 fn read_average(words: &mut Words) -> Result<KindLine, Unreadable> {
     Ok(KindLine::Average {
         way: read_way(words)?,
-        days: words.number("days")?,
-        hold: words.number("hold")?,
+        days: words.field("days", read_number)?,
+        hold: words.field("hold", read_number)?,
         side: read_side(words)?,
     })
 }
 
 fn read_turn(words: &mut Words) -> Result<TurnLine, Unreadable> {
     Ok(TurnLine {
-        mark: words.price("mark")?,
-        step: words.step("step")?,
+        mark: words.field("mark", read_price)?,
+        step: words.field("step", read_step)?,
         options: TrailOptions {
             floor: words.takes("floor"),
             stay: words.takes("stay"),
@@ -150,61 +164,52 @@ fn read_turn(words: &mut Words) -> Result<TurnLine, Unreadable> {
     })
 }
 
-fn read_trail(words: &mut Words) -> Result<Option<StepLine>, Unreadable> {
-    if !words.takes("trail") {
-        return Ok(None);
-    }
-    Ok(Some(words.step("trail")?))
-}
-
 fn read_exit(words: &mut Words) -> Result<ExitLine, Unreadable> {
     Ok(ExitLine {
-        base: words.price("base")?,
-        stop: words.step("stop")?,
-        profit: words.step("profit")?,
-        trail: read_trail(words)?,
+        base: words.field("base", read_price)?,
+        stop: words.field("stop", read_step)?,
+        profit: words.field("profit", read_step)?,
+        trail: words
+            .takes("trail")
+            .then(|| words.field("trail", read_step))
+            .transpose()?,
     })
 }
 
 fn read_batch(words: &mut Words) -> Result<KindLine, Unreadable> {
     Ok(KindLine::Batch {
         side: read_side(words)?,
-        base: words.price("base")?,
-        step: words.step("step")?,
+        base: words.field("base", read_price)?,
+        step: words.field("step", read_step)?,
     })
-}
-
-// Whether the base of a grid follows its fills.
-fn read_following(words: &mut Words) -> Result<bool, Unreadable> {
-    match words.word()? {
-        "market" => Ok(false),
-        "fill" => Ok(true),
-        _ => Err(Unreadable::none_of("grid", "market or fill")),
-    }
 }
 
 fn read_grid(words: &mut Words) -> Result<GridLine, Unreadable> {
     Ok(GridLine {
-        low: words.price("low")?,
-        high: words.price("high")?,
-        base: words.price("base")?,
-        down: words.step("down")?,
-        up: words.step("up")?,
-        fill: read_following(words)?,
+        low: words.field("low", read_price)?,
+        high: words.field("high", read_price)?,
+        base: words.field("base", read_price)?,
+        down: words.field("down", read_step)?,
+        up: words.field("up", read_step)?,
+        mode: words.either(
+            "grid",
+            ("market", GridMode::Market),
+            ("fill", GridMode::Fill),
+        )?,
     })
 }
 
 pub(crate) fn read_kind(words: &mut Words) -> Result<KindLine, Unreadable> {
     match words.word()? {
-        "level" => read_level(words, false),
-        "linked" => read_level(words, true),
+        "level" => read_level(words).map(KindLine::Level),
+        "linked" => read_level(words).map(KindLine::Linked),
         "move" => read_move(words),
         "average" => read_average(words),
-        "rebound" => Ok(KindLine::Rebound(read_turn(words)?)),
-        "fallback" => Ok(KindLine::FallBack(read_turn(words)?)),
-        "exit" => Ok(KindLine::Exit(read_exit(words)?)),
+        "rebound" => read_turn(words).map(KindLine::Rebound),
+        "fallback" => read_turn(words).map(KindLine::FallBack),
+        "exit" => read_exit(words).map(KindLine::Exit),
         "batch" => read_batch(words),
-        "grid" => Ok(KindLine::Grid(read_grid(words)?)),
-        _ => Err(Unreadable::none_of("kind", "one of the kinds of order")),
+        "grid" => read_grid(words).map(KindLine::Grid),
+        _ => Err(Unreadable::Field("kind", WordFault::NotKind)),
     }
 }

@@ -5,33 +5,34 @@ ghost use Rattle.trigger.specs.Reading.{uncommented};
 use crate::cutting::cut_at;
 use crate::kind::{KindLine, read_kind};
 use crate::unreadable::{ReadFault, Unreadable};
-use crate::words::{Words, of_field, read_price};
-use kinds::order_kind::OrderKind;
+use crate::words::{
+    Words, read_byte, read_day, read_moment, read_number, read_percent, read_price,
+};
 use rules::opening::Opening;
 use rules::order::Terms;
 use rules::quote::{Levels, Quote};
 use std::alloc::Global;
+use std::fmt;
 
 // The house keeps single-shot orders apart from grids and batches.
 #[derive(Clone, Copy)]
 pub(crate) enum BookName {
-    Single,
-    Grid,
+    Single = 1,
+    Grid = 2,
 }
 
 impl BookName {
     pub(crate) fn number(&self) -> u32 {
-        match self {
-            BookName::Single => 1,
-            BookName::Grid => 2,
-        }
+        *self as u32
     }
+}
 
-    pub(crate) fn word(&self) -> &'static str {
-        match self {
+impl fmt::Display for BookName {
+    fn fmt<W: fmt::Write>(&self, f: &mut fmt::Formatter<W>) -> fmt::Result {
+        f.write_str(match self {
             BookName::Single => "single",
             BookName::Grid => "grid",
-        }
+        })
     }
 }
 
@@ -45,14 +46,14 @@ pub(crate) enum Ask {
     State,
 }
 
-impl Ask {
-    pub(crate) fn word(&self) -> &'static str {
-        match self {
+impl fmt::Display for Ask {
+    fn fmt<W: fmt::Write>(&self, f: &mut fmt::Formatter<W>) -> fmt::Result {
+        f.write_str(match self {
             Ask::Cancel => "cancel",
             Ask::Claim => "claim",
             Ask::Settle(_) => "settle",
             Ask::State => "state",
-        }
+        })
     }
 }
 
@@ -73,7 +74,6 @@ pub(crate) struct RangeLine {
 
 #[derive(Clone, Copy)]
 pub(crate) struct PlaceLine {
-    pub(crate) book: BookName,
     pub(crate) terms: Terms,
     pub(crate) until: Option<u16>,
     pub(crate) range: Option<RangeLine>,
@@ -96,77 +96,60 @@ pub(crate) enum Line {
 }
 
 fn read_list(heap: Global, words: &mut Words) -> Result<Line, ReadFault> {
-    let share = words.byte("share")?;
+    let share = words.field("share", read_byte)?;
     let mut closes = Vec::new(heap);
     for word in words {
-        closes.push(of_field("close", read_price(word))?)?;
+        let close = read_price(word).map_err(|fault| Unreadable::Field("close", fault))?;
+        closes.push(close)?;
     }
     Ok(Line::List { share, closes })
 }
 
-fn read_day(words: &mut Words) -> Result<Opening, Unreadable> {
+fn read_opening(words: &mut Words) -> Result<Opening, Unreadable> {
     Ok(Opening {
-        share: words.byte("share")?,
-        number: words.day("day")?,
-        close: words.price("close")?,
-        upper: words.price("upper")?,
-        lower: words.price("lower")?,
+        share: words.field("share", read_byte)?,
+        number: words.field("day", read_day)?,
+        close: words.field("close", read_price)?,
+        upper: words.field("upper", read_price)?,
+        lower: words.field("lower", read_price)?,
     })
 }
 
-fn read_until(words: &mut Words) -> Result<Option<u16>, Unreadable> {
-    if !words.takes("until") {
-        return Ok(None);
-    }
-    Ok(Some(words.day("until")?))
+fn read_range(words: &mut Words) -> Result<RangeLine, Unreadable> {
+    Ok(RangeLine {
+        low: words.field("low", read_price)?,
+        high: words.field("high", read_price)?,
+        switch: words.either("switch", ("on", true), ("off", false))?,
+    })
 }
 
-fn read_switch(words: &mut Words) -> Result<bool, Unreadable> {
-    match words.word()? {
-        "on" => Ok(true),
-        "off" => Ok(false),
-        _ => Err(Unreadable::none_of("switch", "on or off")),
-    }
-}
-
-fn read_range(words: &mut Words) -> Result<Option<RangeLine>, Unreadable> {
-    if !words.takes("range") {
-        return Ok(None);
-    }
-    Ok(Some(RangeLine {
-        low: words.price("low")?,
-        high: words.price("high")?,
-        switch: read_switch(words)?,
-    }))
-}
-
+// The terms, but for the limit's mark: that is the kind's to say, which comes later on the line.
 fn read_terms(words: &mut Words) -> Result<Terms, Unreadable> {
     Ok(Terms {
-        number: words.number("number")?,
-        watched: words.byte("watched")?,
-        traded: words.byte("traded")?,
-        quantity: words.number("quantity")?,
-        total: words.number("total")?,
-        choice: words.byte("choice")?,
-        own_price: words.price("own")?,
+        number: words.field("number", read_number)?,
+        watched: words.field("watched", read_byte)?,
+        traded: words.field("traded", read_byte)?,
+        quantity: words.field("quantity", read_number)?,
+        total: words.field("total", read_number)?,
+        choice: words.field("choice", read_byte)?,
+        own_price: words.field("own", read_price)?,
         limit_mark: false,
     })
 }
 
 fn read_place(words: &mut Words) -> Result<PlaceLine, Unreadable> {
-    let mut terms = read_terms(words)?;
-    let until = read_until(words)?;
-    let range = read_range(words)?;
+    let terms = read_terms(words)?;
+    let until = words
+        .takes("until")
+        .then(|| words.field("until", read_day))
+        .transpose()?;
+    let range = words.takes("range").then(|| read_range(words)).transpose()?;
     let kind = read_kind(words)?;
-    let named = kind.order_kind();
-    terms.limit_mark = named.limit_mark();
-    let book = match named {
-        OrderKind::Batch | OrderKind::Grid => BookName::Grid,
-        _ => BookName::Single,
-    };
     Ok(PlaceLine {
-        book,
-        terms,
+        terms: Terms {
+            limit_mark: kind.order_kind().limit_mark(),
+            ..terms
+        },
         until,
         range,
         kind,
@@ -177,18 +160,18 @@ fn read_place(words: &mut Words) -> Result<PlaceLine, Unreadable> {
 fn read_levels(words: &mut Words, field: &'static str) -> Result<[u32; 5], Unreadable> {
     let mut levels = [0; 5];
     for level in levels.iter_mut() {
-        *level = words.price(field)?;
+        *level = words.field(field, read_price)?;
     }
     Ok(levels)
 }
 
 fn read_quote(words: &mut Words) -> Result<Quote, Unreadable> {
     Ok(Quote {
-        share: words.byte("share")?,
-        phase: words.byte("phase")?,
-        moment: words.moment("moment")?,
+        share: words.field("share", read_byte)?,
+        phase: words.field("phase", read_byte)?,
+        moment: words.field("moment", read_moment)?,
         levels: Levels {
-            last: words.price("last")?,
+            last: words.field("last", read_price)?,
             bids: read_levels(words, "bid")?,
             asks: read_levels(words, "ask")?,
         },
@@ -196,18 +179,18 @@ fn read_quote(words: &mut Words) -> Result<Quote, Unreadable> {
 }
 
 fn read_book(words: &mut Words) -> Result<BookName, Unreadable> {
-    match words.word()? {
-        "single" => Ok(BookName::Single),
-        "grid" => Ok(BookName::Grid),
-        _ => Err(Unreadable::none_of("book", "single or grid")),
-    }
+    words.either(
+        "book",
+        ("single", BookName::Single),
+        ("grid", BookName::Grid),
+    )
 }
 
 fn read_order(words: &mut Words, ask: Ask) -> Result<Line, Unreadable> {
     Ok(Line::Order(OrderLine {
         ask,
         book: read_book(words)?,
-        number: words.number("number")?,
+        number: words.field("number", read_number)?,
     }))
 }
 
@@ -215,12 +198,12 @@ fn read_fill(words: &mut Words) -> Result<Option<u32>, Unreadable> {
     if words.takes("none") {
         return Ok(None);
     }
-    Ok(Some(words.price("price")?))
+    words.field("price", read_price).map(Some)
 }
 
 fn read_settle(words: &mut Words) -> Result<Line, Unreadable> {
     let book = read_book(words)?;
-    let number = words.number("number")?;
+    let number = words.field("number", read_number)?;
     let ask = Ask::Settle(read_fill(words)?);
     Ok(Line::Order(OrderLine { ask, book, number }))
 }
@@ -228,13 +211,13 @@ fn read_settle(words: &mut Words) -> Result<Line, Unreadable> {
 // The line that begins with the word, from the words after it: all lines but `list`, which alone wants memory.
 fn read_form(first: &str, words: &mut Words) -> Result<Line, Unreadable> {
     match first {
-        "limit" => Ok(Line::Limit(words.percent("limit")?)),
-        "rows" => Ok(Line::Rows(words.number("rows")?)),
-        "places" => Ok(Line::Places(words.number("places")?)),
-        "day" => Ok(Line::Day(read_day(words)?)),
-        "place" => Ok(Line::Place(read_place(words)?)),
-        "quote" => Ok(Line::Quote(read_quote(words)?)),
-        "burst" => Ok(Line::Burst(words.number("burst")?)),
+        "limit" => words.field("limit", read_percent).map(Line::Limit),
+        "rows" => words.field("rows", read_number).map(Line::Rows),
+        "places" => words.field("places", read_number).map(Line::Places),
+        "day" => read_opening(words).map(Line::Day),
+        "place" => read_place(words).map(Line::Place),
+        "quote" => read_quote(words).map(Line::Quote),
+        "burst" => words.field("burst", read_number).map(Line::Burst),
         "cancel" => read_order(words, Ask::Cancel),
         "claim" => read_order(words, Ask::Claim),
         "settle" => read_settle(words),
@@ -247,10 +230,7 @@ fn read_form(first: &str, words: &mut Words) -> Result<Line, Unreadable> {
 fn without_comment(text: &str) -> &str
     ensures { result.now ≡ uncommented text.now }
 {
-    match cut_at(text, '#') {
-        Some((before, _)) => before,
-        None => text,
-    }
+    cut_at(text, '#').map_or(text, |(before, _)| before)
 }
 
 // What a line asks for: nothing where it has no word.

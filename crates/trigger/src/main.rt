@@ -24,17 +24,16 @@ use std::alloc::Global;
 use std::io;
 use unreadable::{ReadFault, Unreadable};
 
+fn read_bytes(heap: Global, bytes: &[u8]) -> Result<Option<Line>, ReadFault> {
+    read_line(heap, text_of(bytes)?)
+}
+
 // What a line asks for, or why it cannot be read: nothing where it has no word.
 fn read(heap: Global, line: InputLine) -> io::Result<Option<Result<Line, Unreadable>>> {
-    let read = match text_of(line.bytes) {
-        Ok(text) => read_line(heap, text),
-        Err(reason) => Err(ReadFault::Unreadable(reason)),
-    };
-    match read {
-        Ok(Some(asked)) => Ok(Some(Ok(asked))),
-        Ok(None) => Ok(None),
+    match read_bytes(heap, line.bytes) {
+        Ok(asked) => Ok(asked.map(Ok)),
         Err(ReadFault::Unreadable(reason)) => Ok(Some(Err(reason))),
-        Err(ReadFault::Memory) => Err(io::Error::from(io::ErrorKind::OutOfMemory)),
+        Err(ReadFault::Memory(wanting)) => Err(wanting.into()),
     }
 }
 

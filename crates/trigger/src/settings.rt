@@ -1,5 +1,5 @@
 // What is set before the first call: the books' limit, and how many rows and slip places each book is provided with.
-use crate::answering::{Answer, Head};
+use crate::answering::{Answer, Granted, Head, Refusal};
 use crate::line::{Ask, Line};
 use crate::making::condition_of;
 use values::limit::Limit;
@@ -14,49 +14,38 @@ pub(crate) struct Settings {
 impl Settings {
     // A limit of 2.00%, and room for a full book.
     pub(crate) fn new() -> Settings {
-        let limit = match Limit::new(200) {
-            Ok(limit) => limit,
-            Err(_) => unreachable(),
-        };
         Settings {
-            limit,
+            limit: Limit::new(200).unwrap(),
             rows: 4096,
             places: 4096,
         }
     }
 
+    fn set_limit(&mut self, value: u32) -> Answer {
+        self.limit = Limit::new(value)?;
+        Ok(Granted::Done)
+    }
+
     // What is printed for a line that makes no call; none where it makes one.
     pub(crate) fn answer(&mut self, line: &Line) -> Option<(Head, Answer)> {
         match line {
-            Line::Limit(value) => match Limit::new(*value) {
-                Ok(limit) => {
-                    self.limit = limit;
-                    Some((Head::Word("limit"), Answer::Done))
-                }
-                Err(fault) => Some((Head::Word("limit"), Answer::Making(fault))),
-            },
+            Line::Limit(value) => Some((Head::Word("limit"), self.set_limit(*value))),
             Line::Rows(rows) => {
                 self.rows = *rows;
-                Some((Head::Word("rows"), Answer::Done))
+                Some((Head::Word("rows"), Ok(Granted::Done)))
             }
             Line::Places(places) => {
                 self.places = *places;
-                Some((Head::Word("places"), Answer::Done))
+                Some((Head::Word("places"), Ok(Granted::Done)))
             }
-            Line::Place(place) => match condition_of(place) {
-                Ok(_) => None,
-                Err(fault) => Some((
-                    Head::Order("place", place.book, place.terms.number),
-                    Answer::Making(fault),
-                )),
-            },
-            Line::Order(order) => match order.ask {
-                Ask::Settle(_) => Some((
-                    Head::Order("settle", order.book, order.number),
-                    Answer::NoTicket,
-                )),
-                _ => None,
-            },
+            Line::Place(place) => {
+                let fault = condition_of(place).err()?;
+                Some((Head::of_place(place), Err(fault.into())))
+            }
+            Line::Order(order) if matches!(order.ask, Ask::Settle(_)) => Some((
+                Head::Order(*order),
+                Err(Refusal::NoTicket),
+            )),
             _ => None,
         }
     }

@@ -1,5 +1,5 @@
 // One book of the house: its desk, and the places that its slips are written to.
-use crate::answering::{Answer, print_slip};
+use crate::answering::{Answer, Granted, Refusal, print_slip};
 use crate::line::{Ask, BookName, OrderLine};
 use book::desk::Desk;
 use book::row::Row;
@@ -45,7 +45,8 @@ fn blank_slip() -> Slip {
     }
 }
 
-// A call that is made of both books.
+// A call that is made of both books. It is named here and made in `hear`: no one closure could serve both desks, which hold
+// conditions of different types.
 #[derive(Clone, Copy)]
 pub(crate) enum Call<'a> {
     List(u8, &'a [u32]),
@@ -57,8 +58,9 @@ pub(crate) enum Call<'a> {
 #[derive(Drop)]
 pub(crate) struct SlipDesk<'a, C> {
     desk: Desk<'a, C>,
+    // the places, which stay for the next call
     slips: Vec<Slip>,
-    // how many slips the latest call wrote
+    // how many slips the latest call wrote, in the first places
     written: usize,
     // how many orders were placed so far
     orders: usize,
@@ -80,11 +82,9 @@ impl<'a, C: Condition + Drop> SlipDesk<'a, C> {
     }
 
     pub(crate) fn place(&mut self, terms: Terms, condition: C) -> Answer {
-        let done = self.desk.place(terms, condition);
-        if done.is_ok() {
-            self.orders = self.orders.saturating_add(1);
-        }
-        Answer::of_placing(done)
+        self.desk.place(terms, condition)?;
+        self.orders = self.orders.saturating_add(1);
+        Ok(Granted::Done)
     }
 
     // Provides the places that are asked for, but none that no order could fill: each writes at most one slip a quote.
@@ -93,53 +93,77 @@ impl<'a, C: Condition + Drop> SlipDesk<'a, C> {
         self.slips.resize(places.min(most), blank_slip())
     }
 
+    fn list(&mut self, share: u8, closes: &[u32]) -> Answer {
+        self.desk.list(share, closes)?;
+        Ok(Granted::Done)
+    }
+
+    fn open_day(&mut self, opening: Opening) -> Answer {
+        self.desk.open_day(opening)?;
+        Ok(Granted::Done)
+    }
+
+    fn quote(&mut self, quote: Quote) -> Answer {
+        self.written = self.desk.quote(quote, self.slips.as_mut_slice())?;
+        Ok(Granted::Slips(self.written))
+    }
+
+    fn burst(&mut self, quotes: &[Quote]) -> Answer {
+        let burst = self.desk.burst(quotes, self.slips.as_mut_slice());
+        self.written = burst.written;
+        Ok(Granted::Burst(burst))
+    }
+
     pub(crate) fn hear(&mut self, call: Call, places: usize) -> Result<Answer, AllocError> {
         self.written = 0;
         match call {
-            Call::List(share, closes) => Ok(Answer::of_market(self.desk.list(share, closes))),
-            Call::Day(opening) => Ok(Answer::of_market(self.desk.open_day(opening))),
+            Call::List(share, closes) => Ok(self.list(share, closes)),
+            Call::Day(opening) => Ok(self.open_day(opening)),
             Call::Quote(quote) => {
                 self.provide(places, 1)?;
-                match self.desk.quote(quote, self.slips.as_mut_slice()) {
-                    Ok(count) => {
-                        self.written = count;
-                        Ok(Answer::Slips(count))
-                    }
-                    Err(fault) => Ok(Answer::Placing(fault)),
-                }
+                Ok(self.quote(quote))
             }
             Call::Burst(quotes) => {
                 self.provide(places, quotes.len())?;
-                let burst = self.desk.burst(quotes, self.slips.as_mut_slice());
-                self.written = burst.written;
-                Ok(Answer::Burst(burst))
+                Ok(self.burst(quotes))
             }
         }
     }
 
     // Prints the slips of the latest call, and answers how many.
-    pub(crate) fn print_slips(&self, rt: &HostRuntime, book: &str) -> io::Result<usize> {
+    pub(crate) fn print_slips(&self, rt: &HostRuntime, book: BookName) -> io::Result<usize> {
         for slip in self.slips.iter().take(self.written) {
             print_slip(rt, book, slip)?;
         }
         Ok(self.written)
     }
 
+    fn cancel(&mut self, number: u32) -> Answer {
+        self.desk.cancel(number)?;
+        Ok(Granted::Done)
+    }
+
+    // Settles a ticket, with the price of what was filled, if anything was.
+    fn spend(&mut self, ticket: Ticket, fill: Option<Price>) -> Answer {
+        self.desk.settle(ticket, fill)?;
+        Ok(Granted::Done)
+    }
+
     // Settles a ticket with nothing filled.
     pub(crate) fn give_up(&mut self, ticket: Ticket) -> Answer {
-        Answer::of_placing(self.desk.settle(ticket, None))
+        self.spend(ticket, None)
     }
 
     // Claims an order, and holds its ticket. A ticket for which there is no memory is given up.
     fn claim(&mut self, tickets: &mut VecDeque<Ticket>, number: u32) -> Result<Answer, AllocError> {
         let ticket = self.desk.claim(number);
-        let void = ticket.is_void();
+        let granted = if ticket.is_void() {
+            Granted::VoidTicket
+        } else {
+            Granted::Ticket
+        };
         match tickets.push_back(ticket) {
-            Ok(()) => Ok(if void {
-                Answer::VoidTicket
-            } else {
-                Answer::Ticket
-            }),
+            Ok(()) => Ok(Ok(granted)),
             Err(back) => {
                 let _ = self.give_up(back.value);
                 Err(AllocError)
@@ -154,20 +178,10 @@ impl<'a, C: Condition + Drop> SlipDesk<'a, C> {
         order: &OrderLine,
         fill: Option<u32>,
     ) -> Answer {
-        let Some(at) = oldest(tickets, order) else {
-            return Answer::NoTicket;
-        };
-        let price = match fill {
-            None => None,
-            Some(price) => match Price::new(price) {
-                Ok(price) => Some(price),
-                Err(fault) => return Answer::Making(fault),
-            },
-        };
-        match tickets.remove(at) {
-            Some(ticket) => Answer::of_placing(self.desk.settle(ticket, price)),
-            None => Answer::NoTicket,
-        }
+        let at = oldest(tickets, order).ok_or(Refusal::NoTicket)?;
+        let price = fill.map(Price::new).transpose()?;
+        let ticket = tickets.remove(at).ok_or(Refusal::NoTicket)?;
+        self.spend(ticket, price)
     }
 
     pub(crate) fn ask(
@@ -176,24 +190,16 @@ impl<'a, C: Condition + Drop> SlipDesk<'a, C> {
         order: &OrderLine,
     ) -> Result<Answer, AllocError> {
         match order.ask {
-            Ask::Cancel => Ok(Answer::of_placing(self.desk.cancel(order.number))),
+            Ask::Cancel => Ok(self.cancel(order.number)),
             Ask::Claim => self.claim(tickets, order.number),
             Ask::Settle(fill) => Ok(self.settle(tickets, order, fill)),
-            Ask::State => Ok(Answer::State(match self.desk.state(order.number) {
-                Some(state) => state.number(),
-                None => 0,
-            })),
+            Ask::State => Ok(Ok(Granted::State(self.desk.state(order.number)))),
         }
     }
 }
 
 // The place of the oldest ticket for the order.
 fn oldest(tickets: &VecDeque<Ticket>, order: &OrderLine) -> Option<usize> {
-    for at in 0..tickets.len() {
-        let ticket = &tickets[at];
-        if ticket.book() == order.book.number() && ticket.number() == order.number {
-            return Some(at);
-        }
-    }
-    None
+    tickets.iter().position(|ticket| ticket.book() == order.book.number()
+        && ticket.number() == order.number)
 }

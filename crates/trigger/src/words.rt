@@ -18,36 +18,27 @@ pub(crate) enum StepLine {
 }
 
 // A whole number that fits 32 bits.
-fn read_number(text: &str) -> Result<u32, WordFault>
+pub(crate) fn read_number(text: &str) -> Result<u32, WordFault>
     ensures { result_ok result ≡ whole_read text.now }
 {
-    match read_decimal(text, 0) {
-        Ok(n) => Ok(n),
-        Err(DecimalFault::TooLarge) => Err(WordFault::TooLarge),
-        Err(_) => Err(WordFault::NotWhole),
-    }
+    read_decimal(text, 0).map_err(|fault| match fault {
+        DecimalFault::TooLarge => WordFault::TooLarge,
+        _ => WordFault::NotWhole,
+    })
 }
 
 // A whole number up to 255.
-fn read_byte(text: &str) -> Result<u8, WordFault>
+pub(crate) fn read_byte(text: &str) -> Result<u8, WordFault>
     ensures { result_ok result ≡ fitting (2 ^ 8) (whole_read text.now) }
 {
-    let n = read_number(text)?;
-    if n > 255 {
-        return Err(WordFault::TooLarge);
-    }
-    Ok(n as u8)
+    u8::try_from(read_number(text)?).map_err(|_| WordFault::TooLarge)
 }
 
 // A whole number up to 65,535.
-fn read_day(text: &str) -> Result<u16, WordFault>
+pub(crate) fn read_day(text: &str) -> Result<u16, WordFault>
     ensures { result_ok result ≡ fitting (2 ^ 16) (whole_read text.now) }
 {
-    let n = read_number(text)?;
-    if n > 65_535 {
-        return Err(WordFault::TooLarge);
-    }
-    Ok(n as u16)
+    u16::try_from(read_number(text)?).map_err(|_| WordFault::TooLarge)
 }
 
 // A price in ten-thousandths of a yuan.
@@ -58,16 +49,14 @@ pub(crate) fn read_price(text: &str) -> Result<u32, WordFault>
 }
 
 // A percentage in its hundredths.
-fn read_percent(text: &str) -> Result<u32, WordFault>
+pub(crate) fn read_percent(text: &str) -> Result<u32, WordFault>
     ensures { result_ok result ≡ percent_read text.now }
 {
-    match before_sign(text) {
-        Some(number) => Ok(read_decimal(number, 2)?),
-        None => Err(WordFault::NotPercent),
-    }
+    let number = before_sign(text).ok_or(WordFault::NotPercent)?;
+    Ok(read_decimal(number, 2)?)
 }
 
-fn read_step(text: &str) -> Result<StepLine, WordFault>
+pub(crate) fn read_step(text: &str) -> Result<StepLine, WordFault>
     ensures { result_ok result ≡ step_read text.now }
 {
     match before_sign(text) {
@@ -84,19 +73,14 @@ fn clock_seconds(hours: u32, minutes: u32, seconds: u32) -> Result<u32, WordFaul
         return Err(WordFault::NotMoment);
     }
     let all = u64::from(hours) * 3600 + u64::from(minutes) * 60 + u64::from(seconds);
-    if all > u64::from(u32::MAX) {
-        return Err(WordFault::TooLarge);
-    }
-    Ok(all as u32)
+    u32::try_from(all).map_err(|_| WordFault::TooLarge)
 }
 
 // A time of the day, from its hours and from what stands after their colon.
 fn read_clock(hours: &str, rest: &str) -> Result<u32, WordFault>
     ensures { result_ok result ≡ clock_read hours.now (parted 58 rest.now) }
 {
-    let Some((minutes, seconds)) = cut_at(rest, ':') else {
-        return Err(WordFault::NotMoment);
-    };
+    let (minutes, seconds) = cut_at(rest, ':').ok_or(WordFault::NotMoment)?;
     clock_seconds(
         read_number(hours)?,
         read_number(minutes)?,
@@ -105,23 +89,12 @@ fn read_clock(hours: &str, rest: &str) -> Result<u32, WordFault>
 }
 
 // A moment of the day: a whole number of seconds, or HH:MM:SS.
-fn read_moment(text: &str) -> Result<u32, WordFault>
+pub(crate) fn read_moment(text: &str) -> Result<u32, WordFault>
     ensures { result_ok result ≡ moment_read text.now }
 {
     match cut_at(text, ':') {
         None => read_number(text),
         Some((hours, rest)) => read_clock(hours, rest),
-    }
-}
-
-// What a word was read as, or the line's fault, which says of which field the word is.
-pub(crate) fn of_field<T: Drop>(
-    field: &'static str,
-    read: Result<T, WordFault>,
-) -> Result<T, Unreadable> {
-    match read {
-        Ok(value) => Ok(value),
-        Err(fault) => Err(Unreadable::Field(field, fault)),
     }
 }
 
@@ -171,31 +144,32 @@ impl<'a> Words<'a> {
         Ok(())
     }
 
-    pub(crate) fn byte(&mut self, field: &'static str) -> Result<u8, Unreadable> {
-        of_field(field, read_byte(self.word()?))
+    // Reads the next word, which is that of the field.
+    pub(crate) fn field<T: Drop, F: FnOnce(&str) -> Result<T, WordFault>>(
+        &mut self,
+        field: &'static str,
+        read: F,
+    ) -> Result<T, Unreadable>
+        requires { F.IsAlwaysCallable read }
+    {
+        let word = self.word()?;
+        read(word).map_err(|fault| Unreadable::Field(field, fault))
     }
 
-    pub(crate) fn day(&mut self, field: &'static str) -> Result<u16, Unreadable> {
-        of_field(field, read_day(self.word()?))
-    }
-
-    pub(crate) fn number(&mut self, field: &'static str) -> Result<u32, Unreadable> {
-        of_field(field, read_number(self.word()?))
-    }
-
-    pub(crate) fn price(&mut self, field: &'static str) -> Result<u32, Unreadable> {
-        of_field(field, read_price(self.word()?))
-    }
-
-    pub(crate) fn percent(&mut self, field: &'static str) -> Result<u32, Unreadable> {
-        of_field(field, read_percent(self.word()?))
-    }
-
-    pub(crate) fn step(&mut self, field: &'static str) -> Result<StepLine, Unreadable> {
-        of_field(field, read_step(self.word()?))
-    }
-
-    pub(crate) fn moment(&mut self, field: &'static str) -> Result<u32, Unreadable> {
-        of_field(field, read_moment(self.word()?))
+    // Reads the next word, which is one of two that each stand for a value.
+    pub(crate) fn either<T: Copy>(
+        &mut self,
+        field: &'static str,
+        (first, one): (&'static str, T),
+        (second, other): (&'static str, T),
+    ) -> Result<T, Unreadable> {
+        let word = self.word()?;
+        if word == first {
+            Ok(one)
+        } else if word == second {
+            Ok(other)
+        } else {
+            Err(Unreadable::Neither(field, first, second))
+        }
     }
 }
