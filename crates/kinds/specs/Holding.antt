@@ -14,7 +14,7 @@ use Rattle.conditions.specs.declared.event.Event.TheVariants as event
 use Rattle.conditions.specs.declared.event.Side.{Side}
 use Rattle.conditions.proofs.States.{Rests, lawful}
 
--- Two moments, from each of which on every tick is a yes, or a rest: the earlier one serves for both.
+-- of two moments from which on every tick is a yes, the earlier one lies long enough before a third where one of them does
 earlier_of : (x y hold m : ℕ) (a r : Bool) → (nat_le (cond (nat_lt x y) x y + hold) m && a) || r ≡ (nat_le (x + hold) m && a) || ((nat_le (y + hold) m && a) || r)
 earlier_of x y hold m a r = grind (arith, nat_tests)
 

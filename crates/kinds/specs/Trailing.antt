@@ -84,8 +84,8 @@ module _ (order : ℕ → ℕ → Bool) (target : Step → ℕ → ℕ) (total :
     same_price b p = grind (arith, common_steps)
 
     -- a price fires nothing where it is the least one itself
-    waits_at : (b : Bool) → cond {A = Option Price} b None None ≡ None
-    waits_at b = grind (arith, common_steps)
+    target_waits : (b : Bool) → cond {A = Option Price} b None None ≡ None
+    target_waits b = grind (arith, common_steps)
 
     floor_waits : (f d : Bool) → cond {A = Option Price} (f && ((not d || false) && d)) (Some terms.mark) None ≡ None
     floor_waits f d = grind (arith, common_steps)
@@ -94,7 +94,7 @@ module _ (order : ℕ → ℕ → Bool) (target : Step → ℕ → ℕ) (total :
     rests_new t =
         let p = t.price in
         record {
-          waits = simp (same_price, reached_itself order target terms.step p (beyond p), waits_at, floor_waits);
+          waits = simp (same_price, reached_itself order target terms.step p (beyond p), target_waits, floor_waits);
           stays = simp same_price;
         }
 
