@@ -1,5 +1,5 @@
 -- The calls that name one order: what the rules do to the row of its number, and what the book's code does at its place.
-use Rattle.std.proofs.Common.{◌≡◌, ℕ, ◌+◌, Bool, true, false, cond, not, ◌||◌, eqb, List, [], ◌∷◌, ◌++◌, map, get_or, take, drop, set, is_some, IsErrAnd, Some, None, Err, Option, Result, sym, refl, ap, ◌∙◌, ap₂}
+use Rattle.std.proofs.Common.{◌≡◌, ℕ, ◌+◌, ◌<◌, Bool, true, false, cond, not, ◌||◌, eqb, List, [], ◌∷◌, ◌++◌, map, length, get_or, take, drop, set, is_some, IsErrAnd, Some, None, Err, Option, Result, sym, refl, ap, ◌∙◌, ap₂}
 use Rattle.std.specs.Option.{option_map, ok_or}
 use Rattle.std.proofs.lemmas.List.{append-nil}
 use Rattle.std.proofs.lemmas.Bool.{eq-eqb}
@@ -17,9 +17,9 @@ use Rattle.rules.specs.declared.order.Terms.{Terms}
 use Rattle.rules.specs.declared.state.OrderState.{OrderState}
 use Rattle.rules.specs.declared.state.OrderState.TheVariants as state
 use Rattle.book.specs.Turning.{kept, settled_row, machine_settled}
-use Rattle.book.specs.View.{done_reply, claimed_in, claimed_state, waiting_in, with_state, place_of, row_view}
+use Rattle.book.specs.View.{done_reply, claimed_in, claimed_state, waiting_in, with_state, place_of, row_view, rows_view}
 use Rattle.book.specs.declared.row.Row.{Row as Kept}
-use Rattle.book.proofs.Places.{row_none, on_none, found, numbered, on_left, on_set}
+use Rattle.book.proofs.Places.{row_none, on_none, found, numbered, on_left, on_set, inside, read_rows, read_same, take_of_set, lifted_set}
 
 -- The step of each call, by the row of its number.
 
@@ -113,24 +113,22 @@ state_by means mk r = go r.state
     go state.Claimed = refl
     go state.EndedUnderClaim = refl
 
--- a call that found no order
-fault_is : (f e : PlacingFault) → ◌≡◌ {A = Result ℕ PlacingFault} (Err f) (Err e) → f ≡ e
-fault_is f e is = cc
-
-pub refused_none : {X : Type 0} (r : Result X PlacingFault) (f e : PlacingFault) (o : Option ℕ) → IsErrAnd r (λ y. y ≡ f) → Err f ≡ ok_or o e → o ≡ None → done_reply r ≡ refused (by_book e)
-refused_none r f e o exit is none =
+-- what a call answers that found no order: e is its fault
+answer_none : {X : Type 0} (r : Result X PlacingFault) (f e : PlacingFault) (o : Option ℕ) → IsErrAnd r (λ y. y ≡ f) → Err f ≡ ok_or o e → o ≡ None → done_reply r ≡ refused (by_book e)
+answer_none r f e o exit is none =
     let p = err_from_is_err_and r exit in
-    ap done_reply p.1 ∙ ap (λ y. refused (by_book y)) (p.2 ∙ fault_is f e (is ∙ ap (λ z. ok_or z e) none))
+    let q : ◌≡◌ {A = Result ℕ PlacingFault} (Err f) (Err e) = is ∙ ap (λ z. ok_or z e) none in
+    let g : f ≡ e = cc in
+    ap done_reply p.1 ∙ ap (λ y. refused (by_book y)) (p.2 ∙ g)
 
 -- The step of each call, by the rows of a book.
+
+abbrev pub in_rows : {C : Type 0} → (C → Meaning) → Market → List (Kept C) → State
+in_rows means mk rows = record { market = mk; rows = rows_view means mk rows }
 
 module _ {C : Type 0} (means : C → Meaning) (su : Setup) (mk : Market) (xs : List (Kept C)) (k : ℕ) where
   abbrev f : Kept C → Row
   f = row_view means mk
-
-  -- the market stands, and these are the rows
-  abbrev pub in_rows : List (Kept C) → State
-  in_rows rows = record { market = mk; rows = map f rows }
 
   abbrev ours : Ticket
   ours = record { void = false; book = su.book; number = k }
@@ -143,17 +141,25 @@ module _ {C : Type 0} (means : C → Meaning) (su : Setup) (mk : Market) (xs : L
     absent : row_of k (map f xs) ≡ None
     absent = row_none f k xs place
 
-    pub cancels_none : (in_rows xs, refused (by_book fault.NoOrder)) ≡ step su (in_rows xs) (single (cancelling k))
-    cancels_none = cancel_absent su (in_rows xs) k absent
+    pub claims_none : (in_rows means mk xs, gives (record { void = true; book = su.book; number = k })) ≡ step su (in_rows means mk xs) (single (claiming k))
+    claims_none = claim_done su (in_rows means mk xs) k (map f xs) true (on_none f k xs place _) (sym (ap (λ r. not (holds claimable r)) absent))
 
-    pub claims_none : (in_rows xs, gives (record { void = true; book = su.book; number = k })) ≡ step su (in_rows xs) (single (claiming k))
-    claims_none = claim_done su (in_rows xs) k (map f xs) true (on_none f k xs place _) (sym (ap (λ r. not (holds claimable r)) absent))
-
-    pub settles_none : (fill : Option Price) → (in_rows xs, refused (by_book fault.WrongTicket)) ≡ step su (in_rows xs) (single (settling ours fill))
-    settles_none fill = settle_unclaimed su (in_rows xs) ours fill refl own (ap (holds (λ r. r.claimed)) absent)
-
-    pub asks_none : (in_rows xs, in_state None) ≡ step su (in_rows xs) (single (asking k))
+    pub asks_none : (in_rows means mk xs, in_state None) ≡ step su (in_rows means mk xs) (single (asking k))
     asks_none = sym (ap₂ (λ rs r. (record { market = mk; rows = rs }, in_state (state_in r))) (append-nil (map f xs)) absent)
+
+    cancels_none : (in_rows means mk xs, refused (by_book fault.NoOrder)) ≡ step su (in_rows means mk xs) (single (cancelling k))
+    cancels_none = cancel_absent su (in_rows means mk xs) k absent
+
+    settles_none : (fill : Option Price) → (in_rows means mk xs, refused (by_book fault.WrongTicket)) ≡ step su (in_rows means mk xs) (single (settling ours fill))
+    settles_none fill = settle_unclaimed su (in_rows means mk xs) ours fill refl own (ap (holds (λ r. r.claimed)) absent)
+
+  -- the same by what was found and what is answered
+  module _ {X : Type 0} (r : Result X PlacingFault) (t : PlacingFault) (o : Option ℕ) (exit : IsErrAnd r (λ y. y ≡ t)) (none : o ≡ None) (place : o ≡ place_of k xs) where
+    pub cancels_nothing : Err t ≡ ok_or o fault.NoOrder → (in_rows means mk xs, done_reply r) ≡ step su (in_rows means mk xs) (single (cancelling k))
+    cancels_nothing is = ap (λ y. (in_rows means mk xs, y)) (answer_none r t fault.NoOrder o exit is none) ∙ cancels_none (sym none ∙ place)
+
+    pub settles_nothing : (fill : Option Price) → Err t ≡ ok_or o fault.WrongTicket → (in_rows means mk xs, done_reply r) ≡ step su (in_rows means mk xs) (single (settling ours fill))
+    settles_nothing fill is = ap (λ y. (in_rows means mk xs, y)) (answer_none r t fault.WrongTicket o exit is none) ∙ settles_none (sym none ∙ place) fill
 
   -- the order x bears it, at this place
   module _ (at : ℕ) (x : Kept C) (place : Some at ≡ place_of k xs) (is : get_or xs at x ≡ x) where
@@ -172,31 +178,70 @@ module _ {C : Type 0} (means : C → Meaning) (su : Setup) (mk : Market) (xs : L
     became : (turn : Row → List Row) (y : Kept C) → turn (f x) ≡ f y ∷ [] → map f (set xs at y) ≡ on_row k turn (map f xs)
     became = on_set f k xs at x place is
 
-    pub cancels_claimed : claimed_in x.state ≡ true → (in_rows xs, refused (by_book fault.UnderClaim)) ≡ step su (in_rows xs) (single (cancelling k))
-    cancels_claimed e = cancel_claimed su (in_rows xs) k (f x) there e
+    pub cancels_claimed : claimed_in x.state ≡ true → (in_rows means mk xs, refused (by_book fault.UnderClaim)) ≡ step su (in_rows means mk xs) (single (cancelling k))
+    cancels_claimed e = cancel_claimed su (in_rows means mk xs) k (f x) there e
 
-    pub cancels : claimed_in x.state ≡ false → (in_rows (take at xs ++ drop (at + 1) xs), done) ≡ step su (in_rows xs) (single (cancelling k))
-    cancels e = cancel_done su (in_rows xs) k (f x) _ there e (left _ (turn_cancel su.limit mk k (f x) by_it e))
+    pub cancels : claimed_in x.state ≡ false → (in_rows means mk (take at xs ++ drop (at + 1) xs), done) ≡ step su (in_rows means mk xs) (single (cancelling k))
+    cancels e = cancel_done su (in_rows means mk xs) k (f x) _ there e (left _ (turn_cancel su.limit mk k (f x) by_it e))
 
-    pub claims : (y : Kept C) (b : Bool) → y ≡ with_state x (claimed_state x.state) → b ≡ waiting_in x.state
-        → (in_rows (set xs at y), gives (record { void = not b; book = su.book; number = k })) ≡ step su (in_rows xs) (single (claiming k))
+    claims : (y : Kept C) (b : Bool) → y ≡ with_state x (claimed_state x.state) → b ≡ waiting_in x.state
+        → (in_rows means mk (set xs at y), gives (record { void = not b; book = su.book; number = k })) ≡ step su (in_rows means mk xs) (single (claiming k))
     claims y b e w =
-        claim_done su (in_rows xs) k _ (not b) (became _ y (turn_claim means mk su.limit k x by_it ∙ ap (λ r. f r ∷ []) (sym e)))
+        claim_done su (in_rows means mk xs) k _ (not b) (became _ y (turn_claim means mk su.limit k x by_it ∙ ap (λ r. f r ∷ []) (sym e)))
         (ap not (w ∙ sym (claimable_by means mk x) ∙ ap (holds claimable) (sym there)))
 
-    pub settles_unclaimed : (fill : Option Price) → claimed_in x.state ≡ false → (in_rows xs, refused (by_book fault.WrongTicket)) ≡ step su (in_rows xs) (single (settling ours fill))
-    settles_unclaimed fill e = settle_unclaimed su (in_rows xs) ours fill refl own (held false e)
+    pub settles_unclaimed : (fill : Option Price) → claimed_in x.state ≡ false → (in_rows means mk xs, refused (by_book fault.WrongTicket)) ≡ step su (in_rows means mk xs) (single (settling ours fill))
+    settles_unclaimed fill e = settle_unclaimed su (in_rows means mk xs) ours fill refl own (held false e)
 
     -- it stays as y, or leaves
     module _ (fill : Option Price) (claimed : claimed_in x.state ≡ true) (stays : Bool) (y : Kept C) (turn : kept stays (f y) ≡ standing (settled_row fill (f x))) where
       turned : standing (row_after su.limit mk (settling ours fill) (f x)) ≡ kept stays (f y)
       turned = ap standing (turn_settle su.limit mk ours fill (f x) by_it) ∙ sym turn
 
-      pub settles_on : stays ≡ true → (in_rows (set xs at y), done) ≡ step su (in_rows xs) (single (settling ours fill))
-      settles_on e = settle_done su (in_rows xs) ours fill _ refl own (held true claimed) (became _ y (turned ∙ ap (λ b. kept b (f y)) e))
+      settles_on : stays ≡ true → (in_rows means mk (set xs at y), done) ≡ step su (in_rows means mk xs) (single (settling ours fill))
+      settles_on e = settle_done su (in_rows means mk xs) ours fill _ refl own (held true claimed) (became _ y (turned ∙ ap (λ b. kept b (f y)) e))
 
-      pub settles_off : stays ≡ false → (in_rows (take at xs ++ drop (at + 1) xs), done) ≡ step su (in_rows xs) (single (settling ours fill))
-      settles_off e = settle_done su (in_rows xs) ours fill _ refl own (held true claimed) (left _ (turned ∙ ap (λ b. kept b (f y)) e))
+      settles_off : stays ≡ false → (in_rows means mk (take at xs ++ drop (at + 1) xs), done) ≡ step su (in_rows means mk xs) (single (settling ours fill))
+      settles_off e = settle_done su (in_rows means mk xs) ours fill _ refl own (held true claimed) (left _ (turned ∙ ap (λ b. kept b (f y)) e))
 
-    pub asks : (in_rows xs, in_state (Some x.state)) ≡ step su (in_rows xs) (single (asking k))
+    pub asks : (in_rows means mk xs, in_state (Some x.state)) ≡ step su (in_rows means mk xs) (single (asking k))
     asks = sym (ap₂ (λ rs o. (record { market = mk; rows = rs }, in_state o)) (append-nil (map f xs)) (ap state_in there ∙ state_by means mk x))
+
+-- The same of a book whose first n rows are in use: x is the row that the call changes, and y what it becomes.
+module _ {C : Type 0} (means : C → Meaning) (su : Setup) (mk : Market) (ys : List (Kept C)) (n k at : ℕ) (place : Some at ≡ place_of k (take n ys)) (x y : Kept C) (is : x ≡ get_or ys at x) where
+  abbrev used : List (Kept C)
+  used = take n ys
+
+  there_at : at < length used
+  there_at = inside (row_view means mk) k used at place
+
+  read : get_or used at x ≡ x
+  read = read_rows ys n at x there_at is
+
+  pub claims_there : (b : Bool) → y ≡ with_state (get_or ys at x) (claimed_state (get_or ys at x).state) → b ≡ waiting_in (get_or ys at x).state
+      → (in_rows means mk (take n (set ys at y)), gives (record { void = not b; book = su.book; number = k })) ≡ step su (in_rows means mk used) (single (claiming k))
+  claims_there b e w =
+      ap (λ rows. (in_rows means mk rows, gives (record { void = not b; book = su.book; number = k }))) (take_of_set n ys at y)
+      ∙ claims means su mk used k at x place read y b (e ∙ ap (λ r. with_state r (claimed_state r.state)) (sym is)) (w ∙ ap (λ r. waiting_in r.state) (sym is))
+
+  -- z is the same row, which was found to be under a claim
+  module _ (z : Kept C) (same : get_or used at z ≡ z) (claimed : claimed_in z.state ≡ true) (fill : Option Price) (stays : Bool)
+      (turn : kept stays (row_view means mk y) ≡ standing (settled_row fill (row_view means mk (get_or ys at x)))) where
+    held_there : claimed_in x.state ≡ true
+    held_there = ap (λ r. claimed_in r.state) (read_same used at x z there_at read same) ∙ claimed
+
+    turn_there : kept stays (row_view means mk y) ≡ standing (settled_row fill (row_view means mk x))
+    turn_there = turn ∙ ap (λ r. standing (settled_row fill (row_view means mk r))) (sym is)
+
+    abbrev right : Ticket
+    right = record { void = false; book = su.book; number = k }
+
+    pub settles_there : stays ≡ true → (in_rows means mk (take n (set ys at y)), done) ≡ step su (in_rows means mk used) (single (settling right fill))
+    settles_there e =
+        ap (λ rows. (in_rows means mk rows, done)) (take_of_set n ys at y)
+        ∙ settles_on means su mk used k at x place read fill held_there stays y turn_there e
+
+    pub settles_away : stays ≡ false → (in_rows means mk (take at (take n (set ys at y)) ++ drop (at + 1) (take n (set ys at y))), done) ≡ step su (in_rows means mk used) (single (settling right fill))
+    settles_away e =
+        ap (λ rows. (in_rows means mk rows, done)) (lifted_set n ys at y)
+        ∙ settles_off means su mk used k at x place read fill held_there stays y turn_there e

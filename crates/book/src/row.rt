@@ -173,7 +173,7 @@ impl<C: Condition> Row<C> {
         }
     }
 
-    // Tells an order that watches the share a tick. What comes with it keeps its own names: they are those of the rules' definitions.
+    // Tells an order that watches the share a tick. Share, tick and limit come one by one, as the definitions of the turn take them.
     pub(crate) fn tell_tick(&mut self, share: u8, tick: Tick, limit: Limit, market: &Market) -> Told
         ensures row { kept result.stays (row_view C.Condition.meaning (market_of market.now.shares) self.new) ≡ ticked_row share limit.value tick (row_view C.Condition.meaning (market_of market.now.shares) self.old) }
         ensures slips { slip_list result.slip ≡ (ticked_left share limit.value tick (row_view C.Condition.meaning (market_of market.now.shares) self.old)).slips }

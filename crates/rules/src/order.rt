@@ -25,6 +25,7 @@ pub enum PriceChoice {
 }
 
 impl PriceChoice {
+    // The number that stands for the choice: each beside its name, as in the definition.
     pub fn number(&self) -> u8
         ensures { result ≡ choice_number self.now }
     {

@@ -41,6 +41,7 @@ impl<'a, C: Condition> Book<'a, C> {
         let Some(at) = self.place_of(number) else {
             return Ticket::new(true, self.number, number);
         };
+        // lent whole: the book's invariant is of these rows
         let rows = &mut *self.rows;
         let claimed = rows[at].claim();
         Ticket::new(!claimed, self.number, number)
@@ -69,6 +70,7 @@ impl<'a, C: Condition> Book<'a, C> {
         if !self.orders()[at].is_claimed() {
             return Err(PlacingFault::WrongTicket);
         }
+        // as in `claim`
         let rows = &mut *self.rows;
         if !rows[at].settle(fill) {
             self.lift(at);

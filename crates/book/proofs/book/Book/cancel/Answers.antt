@@ -1,18 +1,16 @@
 use Rattle.std.proofs.Common.{sym, refl, ap, ◌∙◌}
 use Rattle.rules.specs.Calls.{done}
-use Rattle.book.specs.View.{view, setup_of, orders_of}
-use Rattle.book.proofs.ByNumber.{cancels_none, cancels_claimed, cancels, refused_none, in_rows}
+use Rattle.book.specs.View.{setup_of, orders_of}
+use Rattle.book.proofs.ByNumber.{cancels_nothing, cancels_claimed, cancels, in_rows}
 use Rattle.book.proofs.Places.{read_orders}
 use Rattle.book.proofs.book.Book.cancel.Goals as goal
 
 pub returns-in_err-at : goal.returns-in_err-at
 returns-in_err-at g c = λ mk.
     let b = c.args.self.now in
-    let m = g.C.Condition.meaning in
-    let none = c.in_err-at.ensures.ok_part in
+    let none = c.in_err-at.ensures in
     record {
-      is_step = ap (λ r. (view m mk b, r)) (refused_none c.from_residual.result _ _ c.place_of.result c.from_residual.ensures.1 c.in_err-at.ensures.value none)
-          ∙ cancels_none m (setup_of b) mk (orders_of b) c.args.number (sym none ∙ c.place_of.ensures.place);
+      is_step = cancels_nothing g.C.Condition.meaning (setup_of b) mk (orders_of b) c.args.number c.from_residual.result _ c.place_of.result c.from_residual.ensures.1 none.ok_part c.place_of.ensures.place none.value;
       setup = refl;
     }
 
@@ -35,7 +33,7 @@ returns g c = λ mk.
     let at = c.in_ok-at.at in
     let x = c.index-orders-at.result in
     record {
-      is_step = ap (λ rows. (in_rows m (setup_of b) mk (orders_of b) c.args.number rows, done)) c.lift.ensures.orders
+      is_step = ap (λ rows. (in_rows m mk rows, done)) c.lift.ensures.orders
           ∙ cancels m (setup_of b) mk (orders_of b) c.args.number at x (sym c.in_ok-at.ensures.ok_part ∙ c.place_of.ensures.place)
           (read_orders c.orders.result.now (orders_of b) at x c.orders.ensures c.index-orders-at.is)
           (sym c.is_claimed.ensures ∙ c.if-is_claimed.false);

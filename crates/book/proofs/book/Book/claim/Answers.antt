@@ -1,9 +1,8 @@
-use Rattle.std.proofs.Common.{sym, refl, ap, ◌∙◌, ap₂}
+use Rattle.std.proofs.Common.{take, set, refl, ap, ◌∙◌}
 use Rattle.std.proofs.lemmas.List.{length-set}
 use Rattle.rules.specs.Calls.{gives}
-use Rattle.book.specs.View.{claimed_state, waiting_in, with_state, row_view, view, setup_of, orders_of, right_of}
-use Rattle.book.proofs.ByNumber.{claims_none, claims, in_rows}
-use Rattle.book.proofs.Places.{inside, read_rows, take_of_set}
+use Rattle.book.specs.View.{view, setup_of, orders_of, right_of}
+use Rattle.book.proofs.ByNumber.{claims_none, claims_there, in_rows}
 use Rattle.book.proofs.book.Book.claim.Goals as goal
 
 pub returns-in_default-clause-step : goal.returns-in_default-clause-step
@@ -19,17 +18,11 @@ pub returns-clause-step : goal.returns-clause-step
 returns-clause-step g c = λ mk.
     let b = c.args.self.now in
     let m = g.C.Condition.meaning in
-    let k = c.args.number in
     let at = c.in-Some.at in
-    let x = c.index-rows-at.result in
-    let y = c.claim-claimed.new.self in
-    let place = c.in-Some.ensures.place in
+    let claimed = c.claim-claimed in
     record {
-      is_step = ap₂ (λ rows t. (in_rows m (setup_of b) mk (orders_of b) k rows, gives (right_of t))) (take_of_set b.count b.rows.now at y) c.new-2.ensures
-          ∙ claims m (setup_of b) mk (orders_of b) k at x place
-          (read_rows b.rows.now b.count at x (inside (row_view m mk) k (orders_of b) at place) c.index-rows-at.is)
-          y c.claim-claimed.result
-          (c.claim-claimed.ensures.row ∙ ap (λ r. with_state r (claimed_state r.state)) (sym c.index-rows-at.is))
-          (c.claim-claimed.ensures.claimed ∙ ap (λ r. waiting_in r.state) (sym c.index-rows-at.is));
-      setup = ap (λ l. record { rows = l; limit = b.limit.value; book = b.number }) (length-set b.rows.now at y);
+      is_step = ap (λ t. (in_rows m mk (take b.count (set b.rows.now at claimed.new.self)), gives (right_of t))) c.new-2.ensures
+          ∙ claims_there m (setup_of b) mk b.rows.now b.count c.args.number at c.in-Some.ensures.place c.index-rows-at.result claimed.new.self c.index-rows-at.is
+          claimed.result claimed.ensures.row claimed.ensures.claimed;
+      setup = ap (λ l. record { rows = l; limit = b.limit.value; book = b.number }) (length-set b.rows.now at claimed.new.self);
     }
