@@ -98,7 +98,7 @@ pub(crate) enum Line {
 fn read_list(heap: Global, words: &mut Words) -> Result<Line, ReadFault> {
     let share = words.field("share", read_byte)?;
     let mut closes = Vec::new(heap);
-    for word in words {
+    for word in &mut words.left {
         let close = read_price(word).map_err(|fault| Unreadable::Field("close", fault))?;
         closes.push(close)?;
     }
@@ -236,7 +236,7 @@ fn without_comment(text: &str) -> &str
 // What a line asks for: nothing where it has no word.
 pub(crate) fn read_line(heap: Global, text: &str) -> Result<Option<Line>, ReadFault> {
     let mut words = Words::of(without_comment(text));
-    let Some(first) = words.next() else {
+    let Some(first) = words.left.next() else {
         return Ok(None);
     };
     let line = if first == "list" {

@@ -2,6 +2,7 @@
 use crate::answering::{Answer, Granted, Head, Refusal};
 use crate::line::{Ask, Line};
 use crate::making::condition_of;
+use crate::slip_desk::GREATEST_ROWS;
 use values::limit::Limit;
 
 #[derive(Clone, Copy)]
@@ -16,8 +17,8 @@ impl Settings {
     pub(crate) fn new() -> Settings {
         Settings {
             limit: Limit::new(200).unwrap(),
-            rows: 4096,
-            places: 4096,
+            rows: GREATEST_ROWS,
+            places: GREATEST_ROWS,
         }
     }
 

@@ -18,7 +18,7 @@ use values::price::Price;
 use values::range::PriceRange;
 
 // A book uses no more rows.
-const GREATEST_ROWS: usize = 4096;
+pub(crate) const GREATEST_ROWS: u32 = 4096;
 
 // Rows for a book, as many as are asked for, but none that it would not use.
 pub(crate) fn vacant_rows<C: Copy>(
@@ -27,7 +27,7 @@ pub(crate) fn vacant_rows<C: Copy>(
     condition: C,
 ) -> Result<Vec<Row<C>>, AllocError> {
     let mut table = Vec::new(heap);
-    table.resize(GREATEST_ROWS.min(rows as usize), Row::vacant(condition))?;
+    table.resize(GREATEST_ROWS.min(rows) as usize, Row::vacant(condition))?;
     Ok(table)
 }
 
@@ -89,7 +89,10 @@ impl<'a, C: Condition + Drop> SlipDesk<'a, C> {
 
     // Provides the places that are asked for, but none that no order could fill: each writes at most one slip a quote.
     fn provide(&mut self, places: usize, quotes: usize) -> Result<(), AllocError> {
-        let most = self.orders.min(GREATEST_ROWS).saturating_mul(quotes);
+        let most = self
+            .orders
+            .min(GREATEST_ROWS as usize)
+            .saturating_mul(quotes);
         self.slips.resize(places.min(most), blank_slip())
     }
 
@@ -155,7 +158,11 @@ impl<'a, C: Condition + Drop> SlipDesk<'a, C> {
     }
 
     // Claims an order, and holds its ticket. A ticket for which there is no memory is given up.
-    fn claim(&mut self, tickets: &mut VecDeque<Ticket>, number: u32) -> Result<Answer, AllocError> {
+    fn claim(
+        &mut self,
+        tickets: &mut VecDeque<Ticket>,
+        number: u32,
+    ) -> Result<Granted, AllocError> {
         let ticket = self.desk.claim(number);
         let granted = if ticket.is_void() {
             Granted::VoidTicket
@@ -163,7 +170,7 @@ impl<'a, C: Condition + Drop> SlipDesk<'a, C> {
             Granted::Ticket
         };
         match tickets.push_back(ticket) {
-            Ok(()) => Ok(Ok(granted)),
+            Ok(()) => Ok(granted),
             Err(back) => {
                 let _ = self.give_up(back.value);
                 Err(AllocError)
@@ -184,6 +191,10 @@ impl<'a, C: Condition + Drop> SlipDesk<'a, C> {
         self.spend(ticket, price)
     }
 
+    fn state(&self, number: u32) -> Answer {
+        Ok(Granted::State(self.desk.state(number)))
+    }
+
     pub(crate) fn ask(
         &mut self,
         tickets: &mut VecDeque<Ticket>,
@@ -191,9 +202,9 @@ impl<'a, C: Condition + Drop> SlipDesk<'a, C> {
     ) -> Result<Answer, AllocError> {
         match order.ask {
             Ask::Cancel => Ok(self.cancel(order.number)),
-            Ask::Claim => self.claim(tickets, order.number),
+            Ask::Claim => self.claim(tickets, order.number).map(Ok),
             Ask::Settle(fill) => Ok(self.settle(tickets, order, fill)),
-            Ask::State => Ok(Ok(Granted::State(self.desk.state(order.number)))),
+            Ask::State => Ok(self.state(order.number)),
         }
     }
 }

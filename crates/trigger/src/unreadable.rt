@@ -3,7 +3,7 @@ use std::alloc::AllocError;
 use thiserror::Error;
 use values::decimal::DecimalFault;
 
-// What is wrong with one word.
+// What is wrong with one word. It holds no text: the borrow check follows a reader that is handed on only if its fault holds no reference.
 #[derive(Clone, Copy, Debug, Error)]
 pub(crate) enum WordFault {
     #[error("not a whole number")]

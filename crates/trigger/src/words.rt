@@ -1,12 +1,11 @@
 // The words of a line, and what each kind of word is read as.
-ghost use Rattle.std.specs.Prelude.{◌≡◌, ◌+◌, ◌^◌, length, is_some, if◌then◌else◌};
-ghost use Rattle.std.specs.Str.Iter.{split_whitespace_rest};
-ghost use Rattle.std.specs.Iterator.{at_most};
+ghost use Rattle.std.specs.Prelude.{◌≡◌, ◌^◌};
 ghost use Rattle.std.specs.Result.{result_ok};
 ghost use Rattle.trigger.specs.Reading.{parted, whole_read, fitting, price_read, percent_read, step_read, clock, clock_read, moment_read};
 
 use crate::cutting::{before_sign, cut_at};
 use crate::unreadable::{Unreadable, WordFault};
+use std::iter::Peekable;
 use std::str::SplitWhitespace;
 use values::decimal::{DecimalFault, read_decimal};
 
@@ -98,50 +97,34 @@ pub(crate) fn read_moment(text: &str) -> Result<u32, WordFault>
     }
 }
 
-// The words of a line that are left. The first of them is in hand, so that a word that may be absent can be looked at before it is taken.
+// The words of a line that are left. A word that may be absent is looked at before it is taken.
 #[derive(Drop)]
 pub(crate) struct Words<'a> {
-    ahead: Option<&'a str>,
-    later: SplitWhitespace<'a>,
-}
-
-impl<'a> Iterator for Words<'a> {
-    type Item = &'a str;
-
-    ghost remaining = { λ s. at_most ((if is_some s.ahead then 1 else 0) + length (split_whitespace_rest s.later)) };
-
-    fn next(&mut self) -> Option<&'a str> {
-        let word = self.ahead?;
-        self.ahead = self.later.next();
-        Some(word)
-    }
+    pub(crate) left: Peekable<SplitWhitespace<'a>>,
 }
 
 impl<'a> Words<'a> {
     pub(crate) fn of(text: &'a str) -> Words<'a> {
-        let mut later = text.split_whitespace();
-        let ahead = later.next();
-        Words { ahead, later }
+        Words {
+            left: text.split_whitespace().peekable(),
+        }
     }
 
     pub(crate) fn word(&mut self) -> Result<&'a str, Unreadable> {
-        self.next().ok_or(Unreadable::TooFewWords)
+        self.left.next().ok_or(Unreadable::TooFewWords)
     }
 
     // Takes the next word if it is this one.
     pub(crate) fn takes(&mut self, word: &str) -> bool {
-        if self.ahead != Some(word) {
-            return false;
-        }
-        self.ahead = self.later.next();
-        true
+        self.left.next_if(|next| *next == word).is_some()
     }
 
-    pub(crate) fn end(&self) -> Result<(), Unreadable> {
-        if self.ahead.is_some() {
-            return Err(Unreadable::TooManyWords);
+    // The line has to end here.
+    pub(crate) fn end(&mut self) -> Result<(), Unreadable> {
+        match self.left.next() {
+            Some(_) => Err(Unreadable::TooManyWords),
+            None => Ok(()),
         }
-        Ok(())
     }
 
     // Reads the next word, which is that of the field.
