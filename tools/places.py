@@ -19,7 +19,8 @@ FILES = sorted(f for f in ROOT.glob("crates/*/src/**/*.rt"))
 
 
 def bare(text):
-    return re.sub(r"//.*", "", text)
+    """A line without its comment, and without the attribute that it is."""
+    return re.sub(r"//.*|^\s*#\[.*\]\s*$|#\[from[^\]]*\] ", "", text)
 
 
 def hits(pattern, comments=False):
@@ -72,7 +73,6 @@ def variants(body):
 
 def enums():
     for f in FILES:
-        text = bare(f.read_text())
         text = "\n".join(bare(l) for l in f.read_text().splitlines())
         for m, body, line in blocks(text, r"^\s*(pub(\(crate\))? )?enum (\w+)"):
             yield f.relative_to(ROOT), line, m.group(3), variants(body)
