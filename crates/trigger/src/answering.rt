@@ -117,7 +117,7 @@ pub(crate) fn print_unreadable(
     println!(rt; "line {number}: unreadable: {reason}")
 }
 
-// The words of a side and of an outcome are this program's own: those two types are the core's, which knows them by number.
+// The words of a side and of an outcome. They are functions, since a Display for a type of another crate cannot stand here.
 fn side_word(side: Side) -> &'static str {
     match side {
         Side::Buy => "buy",

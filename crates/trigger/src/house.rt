@@ -40,6 +40,7 @@ impl Gathering {
     }
 }
 
+// It names the two books' conditions, since its lines are made into just these.
 // It cannot be let go: `close` settles the tickets that it still holds.
 pub(crate) struct House<'a> {
     single: SlipDesk<'a, Pile<SingleShot>>,

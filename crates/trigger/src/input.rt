@@ -51,7 +51,7 @@ pub(crate) struct InputLine<'a> {
 #[derive(Drop)]
 pub(crate) struct ByteLines<'a> {
     rest: &'a [u8],
-    // how many lines came before
+    // how many lines came before: counted here, so that each line bears its number
     passed: u64,
 }
 
