@@ -39,24 +39,17 @@ numeral_some : (ds : List ℕ) → numeral ds ≡ true → 0 < length ds
 numeral_some [] h = grind arith
 numeral_some (c ∷ cs) h = omega arith
 
--- what `parse` says of digits. Its error says nothing, so a number stands for it here
-read_ok : (ds : List ℕ) (x : ℕ) → numeral ds ≡ true → ParsesUnsigned {E = ℕ} 32 10 ds (Ok x) → Ok x ≡ fitted (number ds)
-read_ok ds x h reads =
-    let p = parse_digits own {E = ℕ} 32 ds (Ok x) reads (numeral_digits ds h) in
-    ap Ok p.1 ∙ sym (fitted_below (number ds) p.0.1)
-
-read_err : (ds : List ℕ) → numeral ds ≡ true → ParsesUnsigned {E = ℕ} 32 10 ds (Err 0) → Err TooLarge ≡ fitted (number ds)
-read_err ds h reads =
-    let p = parse_digits own {E = ℕ} 32 ds (Err 0) reads (numeral_digits ds h) in
-    ⊎_elim (λ low. absurd (p (numeral_some ds h, low))) (λ high. sym (fitted_above (number ds) high)) (cases_lt (number ds) (2 ^ 32))
-
--- what `parse` says, with its error made into `TooLarge`
+-- what `parse` says of digits, with its error made into `TooLarge`
 pub read_as : {E : Type 0} (ds : List ℕ) (p : Result ℕ E) (r : Result ℕ DecimalFault) (P : E → DecimalFault → Type 0) → ((e : E) (f : DecimalFault) → P e f → f ≡ TooLarge)
     → numeral ds ≡ true → ParsesUnsigned 32 10 ds p → MatchResult p (λ x. r ≡ Ok x) (λ e. IsErrAnd r (P e)) → r ≡ fitted (number ds)
-read_as ds (Ok x) r P large h reads e = e ∙ read_ok ds x h reads
-read_as ds (Err e) r P large h reads k =
-    let f = err_from_is_err_and r k in
-    f.1 ∙ ap Err (large e f.0 f.2) ∙ read_err ds h reads
+read_as {E} ds (Ok x) r P large h reads is =
+    let p = parse_digits own {E = E} 32 ds (Ok x) reads (numeral_digits ds h) in
+    is ∙ ap Ok p.1 ∙ sym (fitted_below (number ds) p.0.1)
+read_as {E} ds (Err e) r P large h reads is =
+    let f = err_from_is_err_and r is in
+    let p = parse_digits own {E = E} 32 ds (Err e) reads (numeral_digits ds h) in
+    f.1 ∙ ap Err (large e f.0 f.2)
+    ∙ ⊎_elim (λ low. absurd (p (numeral_some ds h, low))) (λ high. sym (fitted_above (number ds) high)) (cases_lt (number ds) (2 ^ 32))
 
 -- n with k zeros put behind it is n or more
 zeros_le : (n k : ℕ) → n ≤ n * 10 ^ k
@@ -97,7 +90,7 @@ zeros_put start z i n (Some x) r is fewer broke =
     (λ high. sym (fitted_above (start * 10 ^ z) (omega (arith, zeros_le (n * 10) k, whole))))
     (cases_lt (n * 10) (2 ^ 32))
 
-pub digits_numeral : (ds : List ℕ) → all_ascii_digits ds ≡ true → not (eqb (length ds) 0) ≡ numeral ds
+digits_numeral : (ds : List ℕ) → all_ascii_digits ds ≡ true → not (eqb (length ds) 0) ≡ numeral ds
 digits_numeral [] h = refl
 digits_numeral (c ∷ cs) h = ap not (ne_eqb (suc (length cs)) 0 (λ e. omega arith)) ∙ sym h
 
