@@ -122,8 +122,8 @@ fn kind_of(line: KindLine) -> Result<Made<SingleShot, Repeating>, MakingFault> {
         KindLine::Level(level) | KindLine::Linked(level) => Made::Single(SingleShot::LevelOrMove(
             OneOf::First(level_of(level)?),
         )),
-        KindLine::Move(line) => Made::Single(SingleShot::LevelOrMove(OneOf::Second(move_of(
-            line,
+        KindLine::Move(day_move) => Made::Single(SingleShot::LevelOrMove(OneOf::Second(move_of(
+            day_move,
         )?))),
         KindLine::Average(average) => Made::Single(SingleShot::Average(average_of(average)?)),
         KindLine::Rebound(turn) => Made::Single(SingleShot::Trail(OneOf::First(turn_of(
