@@ -60,7 +60,7 @@ impl TryFrom<u8> for PriceChoice {
 }
 
 // What an order asks for beside its condition, as it comes in: placing checks it.
-#[derive(Clone, Copy, PartialEq, Eq, Debug)]
+#[derive(Clone, Copy, PartialEq, Eq, Default, Debug)]
 pub struct Terms {
     pub number: u32,
     // the share whose days and prices the condition is told
