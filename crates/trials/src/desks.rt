@@ -22,12 +22,12 @@ use values::limit::Limit;
 use values::price::Price;
 use values::range::PriceRange;
 
-// The number of a refusal, or 0.
+// The number of a refusal, or 0: by number, so that the tests pin the numbers too.
 fn refusal(answer: Result<(), PlacingFault>) -> u8 {
     answer.err().map_or(0, |fault| fault.number())
 }
 
-// The number of a state, or 0.
+// The number of a state, or 0: by number as well.
 fn state_number(state: Option<OrderState>) -> u8 {
     state.map_or(0, |state| state.number())
 }
@@ -178,8 +178,7 @@ fn told(
     let mut slips = [blank; 4];
     let _ = desk.place(terms(7), order);
     let before = desk.burst(first, &mut slips);
-    let written = before.written;
-    let _ = desk.burst(second, &mut slips[written..4]);
+    let _ = desk.burst(second, &mut slips[before.written..]);
     slips
 }
 
@@ -196,8 +195,9 @@ fn a_burst_may_be_cut_anywhere(rt: HostRuntime) -> Result<(), Fail> {
     ];
     let whole = told(limit, order, blank, &quotes, &[]);
     assert!(rt; whole[1].market.value() == 190_000 && whole[2] == blank);
-    for at in 0..5 {
-        let cut = told(limit, order, blank, &quotes[0..at], &quotes[at..4]);
+    for at in 0..=quotes.len() {
+        let (first, second) = quotes.split_at(at);
+        let cut = told(limit, order, blank, first, second);
         assert!(rt; cut[0] == whole[0] && cut[1] == whole[1] && cut[2] == blank);
     }
     Ok(())

@@ -35,9 +35,9 @@ fn a_level_waits_for_a_day_and_lapses_after_its_last(rt: HostRuntime) -> Result<
 fn a_switch_lets_the_last_fire_pass(rt: HostRuntime) -> Result<(), Fail> {
     let range = PriceRange::new(Price::new(100_000)?, Price::new(104_000)?)?;
     for (switch, price, trigger) in [
-        (true, 105_000, 105_000),
-        (true, 104_500, 0),
-        (false, 105_000, 0),
+        (true, 105_000, Some(105_000)),
+        (true, 104_500, None),
+        (false, 105_000, None),
     ] {
         let mut order = pile(
             None,
@@ -46,10 +46,9 @@ fn a_switch_lets_the_last_fire_pass(rt: HostRuntime) -> Result<(), Fail> {
         );
         assert_eq!(rt; order.tell(plain_day(1, 100_000)?), Answer::Wait);
         assert_eq!(rt; tick(&mut order, 1, 104_000)?, Answer::Wait);
-        let answer = if trigger == 0 {
-            Answer::Lapses
-        } else {
-            fires(Side::Sell, trigger, Next::Over)?
+        let answer = match trigger {
+            Some(trigger) => fires(Side::Sell, trigger, Next::Over)?,
+            None => Answer::Lapses,
         };
         assert_eq!(rt; tick(&mut order, 2, price)?, answer);
     }

@@ -1,4 +1,4 @@
-// The ends of the checked numbers, and targets.
+// The ends of the checked numbers, ranges, targets, and prices read and shown.
 use crate::help::percent;
 use std::test::Fail;
 use values::days::AveragingDays;
@@ -10,6 +10,7 @@ use values::price::Price;
 use values::range::PriceRange;
 use values::step::{Difference, Percentage, Step};
 
+// The number of a fault, or 0: by number, so that the tests pin the numbers too.
 fn number_of<T: Drop>(made: Result<T, MakingFault>) -> u8 {
     made.err().map_or(0, |fault| fault.number())
 }

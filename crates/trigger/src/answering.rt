@@ -1,5 +1,5 @@
 // What is printed: the answers to the lines, and the slips.
-use crate::line::{BookName, OrderLine, PlaceLine};
+use crate::line::{BookName, OrderLine, OrderName};
 use crate::unreadable::Unreadable;
 use book::burst::Burst;
 use conditions::event::Side;
@@ -17,16 +17,10 @@ pub(crate) enum Head {
     Word(&'static str),
     Share(&'static str, u8),
     Day(u8, u16),
-    Place(BookName, u32),
+    Place(OrderName),
     Order(OrderLine),
     // a ticket that is settled at the end
-    End(BookName, u32),
-}
-
-impl Head {
-    pub(crate) fn of_place(line: &PlaceLine) -> Head {
-        Head::Place(line.kind.book(), line.terms.number)
-    }
+    End(OrderName),
 }
 
 impl fmt::Display for Head {
@@ -35,9 +29,9 @@ impl fmt::Display for Head {
             Head::Word(word) => f.write_str(word),
             Head::Share(word, share) => write!(f, "{word} {share}"),
             Head::Day(share, number) => write!(f, "day {share} {number}"),
-            Head::Place(book, number) => write!(f, "place {book} {number}"),
-            Head::Order(order) => write!(f, "{} {} {}", order.ask, order.book, order.number),
-            Head::End(book, number) => write!(f, "end: settle {book} {number}"),
+            Head::Place(order) => write!(f, "place {order}"),
+            Head::Order(line) => write!(f, "{} {}", line.ask, line.order),
+            Head::End(order) => write!(f, "end: settle {order}"),
         }
     }
 }
@@ -77,7 +71,7 @@ impl fmt::Display for Granted {
 // Why a line is refused.
 #[derive(Clone, Copy, Debug, Error)]
 pub(crate) enum Refusal {
-    // A value could not be made, and so no call was.
+    // a value could not be made, and so no call was
     #[error("refused {}: {}", .0.number(), .0)]
     Making(#[from] MakingFault),
     #[error("refused {}: {}", .0.number(), .0)]
@@ -88,7 +82,8 @@ pub(crate) enum Refusal {
     NoTicket,
 }
 
-// What a line is answered with.
+// What a line is answered with. The crate `replay` has an Answer and a Refusal of its own, which stand under its theorem; these are
+// what is printed.
 pub(crate) type Answer = Result<Granted, Refusal>;
 
 // An answer as it is printed.
@@ -134,7 +129,7 @@ fn outcome_word(outcome: Outcome) -> &'static str {
     }
 }
 
-pub(crate) fn print_slip(rt: &HostRuntime, book: BookName, slip: &Slip) -> io::Result<()> {
+fn print_slip(rt: &HostRuntime, book: BookName, slip: &Slip) -> io::Result<()> {
     println!(rt;
         "slip {book} {} at {} {} trigger {} market {} price {} quantity {} {}",
         slip.number,
@@ -146,4 +141,11 @@ pub(crate) fn print_slip(rt: &HostRuntime, book: BookName, slip: &Slip) -> io::R
         slip.quantity,
         outcome_word(slip.outcome)
     )
+}
+
+pub(crate) fn print_slips(rt: &HostRuntime, book: BookName, slips: &[Slip]) -> io::Result<()> {
+    for slip in slips {
+        print_slip(rt, book, slip)?;
+    }
+    Ok(())
 }

@@ -1,12 +1,11 @@
 // The house's two books, what the lines make of them, and the tickets that it holds.
-use crate::answering::{Answer, Granted, Head, Shown, print_answer, print_unreadable};
+use crate::answering::{Answer, Granted, Head, Shown, print_answer, print_slips, print_unreadable};
 use crate::line::{BookName, Line, OrderLine, PlaceLine};
 use crate::making::{Made, condition_of};
 use crate::settings::Settings;
-use crate::slip_desk::{Call, SlipDesk};
+use crate::slip_desk::{Call, Held, SlipDesk};
 use crate::unreadable::Unreadable;
 use book::row::Row;
-use book::ticket::Ticket;
 use conditions::layer::pile::Pile;
 use kinds::book_kinds::{Repeating, SingleShot};
 use rules::quote::Quote;
@@ -49,9 +48,10 @@ pub(crate) struct House<'a> {
     places: usize,
     // how many slips were printed
     printed: u64,
+    // kept from line to line: if a burst pulled its own lines, the loop over the lines would need a proof that it still ends
     gathering: Option<Gathering>,
     // the oldest first
-    tickets: VecDeque<Ticket>,
+    tickets: VecDeque<Held>,
 }
 
 impl<'a> House<'a> {
@@ -64,7 +64,7 @@ impl<'a> House<'a> {
         House {
             single: SlipDesk::new(heap, single, BookName::Single, settings.limit),
             grid: SlipDesk::new(heap, grid, BookName::Grid, settings.limit),
-            places: settings.places as usize,
+            places: settings.places,
             printed: 0,
             gathering: None,
             tickets: VecDeque::new(heap),
@@ -73,15 +73,19 @@ impl<'a> House<'a> {
 
     // Makes a call of both books, and prints their answers and then their slips.
     fn call_both(&mut self, rt: &HostRuntime, head: Head, call: Call) -> io::Result<()> {
-        let single = Shown(self.single.hear(call, self.places)?);
-        let grid = Shown(self.grid.hear(call, self.places)?);
-        println!(rt; "{head}: single {single}, grid {grid}")?;
-        let first = self.single.print_slips(rt, BookName::Single)?;
-        let second = self.grid.print_slips(rt, BookName::Grid)?;
+        let single = self.single.hear(call, self.places)?;
+        let grid = self.grid.hear(call, self.places)?;
+        println!(rt;
+            "{head}: single {}, grid {}",
+            Shown(single.answer),
+            Shown(grid.answer)
+        )?;
+        print_slips(rt, BookName::Single, single.slips)?;
+        print_slips(rt, BookName::Grid, grid.slips)?;
         self.printed = self
             .printed
-            .saturating_add(first as u64)
-            .saturating_add(second as u64);
+            .saturating_add(single.slips.len() as u64)
+            .saturating_add(grid.slips.len() as u64);
         Ok(())
     }
 
@@ -92,10 +96,10 @@ impl<'a> House<'a> {
         }
     }
 
-    fn ask(&mut self, order: &OrderLine) -> Result<Answer, AllocError> {
-        match order.book {
-            BookName::Single => self.single.ask(&mut self.tickets, order),
-            BookName::Grid => self.grid.ask(&mut self.tickets, order),
+    fn ask(&mut self, line: &OrderLine) -> Result<Answer, AllocError> {
+        match line.order.book {
+            BookName::Single => self.single.ask(&mut self.tickets, line),
+            BookName::Grid => self.grid.ask(&mut self.tickets, line),
         }
     }
 
@@ -127,7 +131,7 @@ impl<'a> House<'a> {
             Line::Day(day) => self.call_both(rt, Head::Day(day.share, day.number), Call::Day(*day)),
             Line::Place(place) => {
                 let answer = self.place(place);
-                print_answer(rt, Head::of_place(place), answer)
+                print_answer(rt, Head::Place(place.order()), answer)
             }
             Line::Quote(quote) => self.call_both(
                 rt,
@@ -141,9 +145,9 @@ impl<'a> House<'a> {
                     coming: *lines,
                 },
             ),
-            Line::Order(order) => {
-                let answer = self.ask(order)?;
-                print_answer(rt, Head::Order(*order), answer)
+            Line::Order(asked) => {
+                let answer = self.ask(asked)?;
+                print_answer(rt, Head::Order(*asked), answer)
             }
         }
     }
@@ -184,16 +188,12 @@ impl<'a> House<'a> {
             mut tickets,
         } = self;
         let mut done = before;
-        while let Some(ticket) = tickets.pop_front() {
-            let number = ticket.number();
-            let (book, answer) = if ticket.book() == BookName::Grid.number() {
-                (BookName::Grid, grid.give_up(ticket))
-            } else {
-                (BookName::Single, single.give_up(ticket))
+        while let Some(Held { order, ticket }) = tickets.pop_front() {
+            let answer = match order.book {
+                BookName::Single => single.give_up(ticket),
+                BookName::Grid => grid.give_up(ticket),
             };
-            if done.is_ok() {
-                done = print_answer(rt, Head::End(book, number), answer);
-            }
+            done = done.and_then(|()| print_answer(rt, Head::End(order), answer));
         }
         tickets.destroy_empty();
         done?;

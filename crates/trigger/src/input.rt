@@ -4,20 +4,12 @@ ghost use Rattle.std.specs.Iterator.{at_most};
 
 use crate::unreadable::Unreadable;
 use std::io::Read;
-use std::{env, fs, io};
+use std::{fs, io};
 
-pub(crate) fn asks_for_help(rt: &HostRuntime) -> io::Result<bool> {
-    Ok(
-        env::args(rt)?
-            .nth(1)
-            .is_some_and(|word| word.as_str() == "--help"),
-    )
-}
-
-// The bytes of the file that the first argument names, or of the standard input where there is none.
-pub(crate) fn read_all(rt: &HostRuntime) -> io::Result<Vec<u8>> {
-    match env::args(rt)?.nth(1) {
-        Some(path) => fs::read(rt, path.as_str()),
+// The bytes of the file, or of the standard input where none is named.
+pub(crate) fn read_all(rt: &HostRuntime, path: Option<&str>) -> io::Result<Vec<u8>> {
+    match path {
+        Some(path) => fs::read(rt, path),
         None => read_standard_input(rt),
     }
 }
@@ -47,7 +39,9 @@ pub(crate) struct InputLine<'a> {
     pub(crate) bytes: &'a [u8],
 }
 
-// The lines of the input. The last one needs no newline.
+// The lines of the input. The last one needs no newline. Not `split` and `enumerate`: each function over the lines would have to
+// be generic in the closure that they hold, and to ask that it can be called and that the count fits; and `line_end` says where a
+// line ends.
 #[derive(Drop)]
 pub(crate) struct ByteLines<'a> {
     rest: &'a [u8],
@@ -56,7 +50,7 @@ pub(crate) struct ByteLines<'a> {
 }
 
 impl<'a> ByteLines<'a> {
-    pub(crate) fn of(bytes: &'a [u8]) -> ByteLines<'a> {
+    pub(crate) fn new(bytes: &'a [u8]) -> ByteLines<'a> {
         ByteLines {
             rest: bytes,
             passed: 0,

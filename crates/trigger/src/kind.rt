@@ -21,11 +21,26 @@ pub(crate) struct LevelLine {
     pub(crate) side: Side,
 }
 
-// How far the price is to move in a day.
+// How far the price is to move in a day. No Option: both ways have names.
 #[derive(Clone, Copy)]
 pub(crate) enum DistanceLine {
     Percent(u32),
     Limit,
+}
+
+#[derive(Clone, Copy)]
+pub(crate) struct MoveLine {
+    pub(crate) way: Way,
+    pub(crate) distance: DistanceLine,
+    pub(crate) side: Side,
+}
+
+#[derive(Clone, Copy)]
+pub(crate) struct AverageLine {
+    pub(crate) way: Way,
+    pub(crate) days: u32,
+    pub(crate) hold: u32,
+    pub(crate) side: Side,
 }
 
 // A price to reach, and the way back from the best one since that makes the order.
@@ -44,9 +59,16 @@ pub(crate) struct ExitLine {
     pub(crate) trail: Option<StepLine>,
 }
 
-// What the base of a grid follows.
 #[derive(Clone, Copy)]
-pub(crate) enum GridMode {
+pub(crate) struct BatchLine {
+    pub(crate) side: Side,
+    pub(crate) base: u32,
+    pub(crate) step: StepLine,
+}
+
+// Whether a grid's base follows the market or its fills.
+#[derive(Clone, Copy)]
+pub(crate) enum GridModeLine {
     Market,
     Fill,
 }
@@ -58,32 +80,19 @@ pub(crate) struct GridLine {
     pub(crate) base: u32,
     pub(crate) down: StepLine,
     pub(crate) up: StepLine,
-    pub(crate) mode: GridMode,
+    pub(crate) mode: GridModeLine,
 }
 
 #[derive(Clone, Copy)]
 pub(crate) enum KindLine {
     Level(LevelLine),
     Linked(LevelLine),
-    Move {
-        way: Way,
-        distance: DistanceLine,
-        side: Side,
-    },
-    Average {
-        way: Way,
-        days: u32,
-        hold: u32,
-        side: Side,
-    },
+    Move(MoveLine),
+    Average(AverageLine),
     Rebound(TurnLine),
     FallBack(TurnLine),
     Exit(ExitLine),
-    Batch {
-        side: Side,
-        base: u32,
-        step: StepLine,
-    },
+    Batch(BatchLine),
     Grid(GridLine),
 }
 
@@ -92,12 +101,12 @@ impl KindLine {
         match self {
             KindLine::Level(_) => OrderKind::Level,
             KindLine::Linked(_) => OrderKind::Linked,
-            KindLine::Move { .. } => OrderKind::DayMove,
-            KindLine::Average { .. } => OrderKind::Average,
+            KindLine::Move(_) => OrderKind::DayMove,
+            KindLine::Average(_) => OrderKind::Average,
             KindLine::Rebound(_) => OrderKind::Rebound,
             KindLine::FallBack(_) => OrderKind::FallBack,
             KindLine::Exit(_) => OrderKind::StopOrProfit,
-            KindLine::Batch { .. } => OrderKind::Batch,
+            KindLine::Batch(_) => OrderKind::Batch,
             KindLine::Grid(_) => OrderKind::Grid,
         }
     }
@@ -105,7 +114,7 @@ impl KindLine {
     // The book that holds orders of this kind.
     pub(crate) fn book(&self) -> BookName {
         match self {
-            KindLine::Batch { .. } | KindLine::Grid(_) => BookName::Grid,
+            KindLine::Batch(_) | KindLine::Grid(_) => BookName::Grid,
             _ => BookName::Single,
         }
     }
@@ -136,16 +145,16 @@ fn read_distance(words: &mut Words) -> Result<DistanceLine, Unreadable> {
         .map(DistanceLine::Percent)
 }
 
-fn read_move(words: &mut Words) -> Result<KindLine, Unreadable> {
-    Ok(KindLine::Move {
+fn read_move(words: &mut Words) -> Result<MoveLine, Unreadable> {
+    Ok(MoveLine {
         way: read_way(words)?,
         distance: read_distance(words)?,
         side: read_side(words)?,
     })
 }
 
-fn read_average(words: &mut Words) -> Result<KindLine, Unreadable> {
-    Ok(KindLine::Average {
+fn read_average(words: &mut Words) -> Result<AverageLine, Unreadable> {
+    Ok(AverageLine {
         way: read_way(words)?,
         days: words.field("days", read_number)?,
         hold: words.field("hold", read_number)?,
@@ -176,8 +185,8 @@ fn read_exit(words: &mut Words) -> Result<ExitLine, Unreadable> {
     })
 }
 
-fn read_batch(words: &mut Words) -> Result<KindLine, Unreadable> {
-    Ok(KindLine::Batch {
+fn read_batch(words: &mut Words) -> Result<BatchLine, Unreadable> {
+    Ok(BatchLine {
         side: read_side(words)?,
         base: words.field("base", read_price)?,
         step: words.field("step", read_step)?,
@@ -193,8 +202,8 @@ fn read_grid(words: &mut Words) -> Result<GridLine, Unreadable> {
         up: words.field("up", read_step)?,
         mode: words.either(
             "grid",
-            ("market", GridMode::Market),
-            ("fill", GridMode::Fill),
+            ("market", GridModeLine::Market),
+            ("fill", GridModeLine::Fill),
         )?,
     })
 }
@@ -203,12 +212,12 @@ pub(crate) fn read_kind(words: &mut Words) -> Result<KindLine, Unreadable> {
     match words.word()? {
         "level" => read_level(words).map(KindLine::Level),
         "linked" => read_level(words).map(KindLine::Linked),
-        "move" => read_move(words),
-        "average" => read_average(words),
+        "move" => read_move(words).map(KindLine::Move),
+        "average" => read_average(words).map(KindLine::Average),
         "rebound" => read_turn(words).map(KindLine::Rebound),
         "fallback" => read_turn(words).map(KindLine::FallBack),
         "exit" => read_exit(words).map(KindLine::Exit),
-        "batch" => read_batch(words),
+        "batch" => read_batch(words).map(KindLine::Batch),
         "grid" => read_grid(words).map(KindLine::Grid),
         _ => Err(Unreadable::Field("kind", WordFault::NotKind)),
     }

@@ -15,7 +15,7 @@ use std::alloc::Global;
 use std::fmt;
 
 // The house keeps single-shot orders apart from grids and batches.
-#[derive(Clone, Copy)]
+#[derive(Clone, Copy, PartialEq, Eq)]
 pub(crate) enum BookName {
     Single = 1,
     Grid = 2,
@@ -33,6 +33,19 @@ impl fmt::Display for BookName {
             BookName::Single => "single",
             BookName::Grid => "grid",
         })
+    }
+}
+
+// An order is known by its book and its number there.
+#[derive(Clone, Copy, PartialEq, Eq)]
+pub(crate) struct OrderName {
+    pub(crate) book: BookName,
+    pub(crate) number: u32,
+}
+
+impl fmt::Display for OrderName {
+    fn fmt<W: fmt::Write>(&self, f: &mut fmt::Formatter<W>) -> fmt::Result {
+        write!(f, "{} {}", self.book, self.number)
     }
 }
 
@@ -60,15 +73,14 @@ impl fmt::Display for Ask {
 #[derive(Clone, Copy)]
 pub(crate) struct OrderLine {
     pub(crate) ask: Ask,
-    pub(crate) book: BookName,
-    pub(crate) number: u32,
+    pub(crate) order: OrderName,
 }
 
 #[derive(Clone, Copy)]
 pub(crate) struct RangeLine {
     pub(crate) low: u32,
     pub(crate) high: u32,
-    // Whether the switch is on.
+    // whether the switch is on
     pub(crate) switch: bool,
 }
 
@@ -80,10 +92,19 @@ pub(crate) struct PlaceLine {
     pub(crate) kind: KindLine,
 }
 
+impl PlaceLine {
+    pub(crate) fn order(&self) -> OrderName {
+        OrderName {
+            book: self.kind.book(),
+            number: self.terms.number,
+        }
+    }
+}
+
 // What a line asks for.
 #[derive(Drop)]
 pub(crate) enum Line {
-    // In hundredths of a percent.
+    // in hundredths of a percent
     Limit(u32),
     Rows(u32),
     Places(u32),
@@ -186,12 +207,16 @@ fn read_book(words: &mut Words) -> Result<BookName, Unreadable> {
     )
 }
 
-fn read_order(words: &mut Words, ask: Ask) -> Result<Line, Unreadable> {
-    Ok(Line::Order(OrderLine {
-        ask,
+fn read_name(words: &mut Words) -> Result<OrderName, Unreadable> {
+    Ok(OrderName {
         book: read_book(words)?,
         number: words.field("number", read_number)?,
-    }))
+    })
+}
+
+fn read_order(words: &mut Words, ask: Ask) -> Result<Line, Unreadable> {
+    let order = read_name(words)?;
+    Ok(Line::Order(OrderLine { ask, order }))
 }
 
 fn read_fill(words: &mut Words) -> Result<Option<u32>, Unreadable> {
@@ -202,10 +227,9 @@ fn read_fill(words: &mut Words) -> Result<Option<u32>, Unreadable> {
 }
 
 fn read_settle(words: &mut Words) -> Result<Line, Unreadable> {
-    let book = read_book(words)?;
-    let number = words.field("number", read_number)?;
+    let order = read_name(words)?;
     let ask = Ask::Settle(read_fill(words)?);
-    Ok(Line::Order(OrderLine { ask, book, number }))
+    Ok(Line::Order(OrderLine { ask, order }))
 }
 
 // The line that begins with the word, from the words after it: all lines but `list`, which alone wants memory.
@@ -235,7 +259,7 @@ fn without_comment(text: &str) -> &str
 
 // What a line asks for: nothing where it has no word.
 pub(crate) fn read_line(heap: Global, text: &str) -> Result<Option<Line>, ReadFault> {
-    let mut words = Words::of(without_comment(text));
+    let mut words = Words::new(without_comment(text));
     let Some(first) = words.left.next() else {
         return Ok(None);
     };

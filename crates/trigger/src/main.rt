@@ -15,13 +15,13 @@ mod words;
 
 use answering::{print_answer, print_unreadable};
 use house::House;
-use input::{ByteLines, InputLine, text_of};
+use input::{ByteLines, InputLine, read_all, text_of};
 use line::{Line, read_line};
 use making::{vacant_repeating, vacant_single};
 use settings::Settings;
 use slip_desk::vacant_rows;
 use std::alloc::Global;
-use std::io;
+use std::{env, io};
 use unreadable::{ReadFault, Unreadable};
 
 fn read_bytes(heap: Global, bytes: &[u8]) -> Result<Option<Line>, ReadFault> {
@@ -73,9 +73,9 @@ fn make_calls(
     house.end_burst(rt)
 }
 
-fn serve(rt: &HostRuntime) -> io::Result<()> {
-    let bytes = input::read_all(rt)?;
-    let mut lines = ByteLines::of(bytes.as_slice());
+fn serve(rt: &HostRuntime, path: Option<&str>) -> io::Result<()> {
+    let bytes = read_all(rt, path)?;
+    let mut lines = ByteLines::new(bytes.as_slice());
     let mut settings = Settings::new();
     let first = set_up(rt, &mut lines, &mut settings)?;
     let mut single = vacant_rows(rt.alloc(), settings.rows, vacant_single())?;
@@ -91,10 +91,11 @@ fn serve(rt: &HostRuntime) -> io::Result<()> {
 }
 
 fn main(rt: HostRuntime) -> io::Result<()> {
-    if input::asks_for_help(&rt)? {
-        return rt.println(
+    let argument = env::args(&rt)?.nth(1);
+    match argument.as_ref().map(|word| word.as_str()) {
+        Some("--help") => rt.println(
             "trigger [FILE]: reads a trading day from FILE or the standard input and prints every answer. docs/DAY-FILE.md has the lines.",
-        );
+        ),
+        path => serve(&rt, path),
     }
-    serve(&rt)
 }

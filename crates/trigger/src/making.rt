@@ -1,6 +1,9 @@
 // Orders as a line writes them, made into conditions. Values are made from left to right, and so is the first fault found;
 // then the kind makes its own checks, and last the range above it.
-use crate::kind::{DistanceLine, ExitLine, GridLine, GridMode, KindLine, LevelLine, TurnLine, Way};
+use crate::kind::{
+    AverageLine, BatchLine, DistanceLine, ExitLine, GridLine, GridModeLine, KindLine, LevelLine,
+    MoveLine, TurnLine, Way,
+};
 use crate::line::{PlaceLine, RangeLine};
 use crate::words::StepLine;
 use conditions::event::Side;
@@ -22,7 +25,7 @@ use values::price::Price;
 use values::range::PriceRange;
 use values::step::{Difference, Percentage, Step};
 
-// What is made, by the book that holds such orders.
+// What is made, by the book that holds such orders. No OneOf: the books have names.
 #[derive(Clone, Copy)]
 pub(crate) enum Made<S, R> {
     Single(S),
@@ -55,20 +58,20 @@ fn distance_of(line: DistanceLine) -> Result<Distance, MakingFault> {
     }
 }
 
-fn move_of(way: Way, distance: DistanceLine, side: Side) -> Result<EitherMove, MakingFault> {
-    let distance = distance_of(distance)?;
-    Ok(match way {
-        Way::Up => OneOf::First(making::move_of_day(Rising, distance, side)),
-        Way::Down => OneOf::Second(making::move_of_day(Falling, distance, side)),
+fn move_of(line: MoveLine) -> Result<EitherMove, MakingFault> {
+    let distance = distance_of(line.distance)?;
+    Ok(match line.way {
+        Way::Up => OneOf::First(making::move_of_day(Rising, distance, line.side)),
+        Way::Down => OneOf::Second(making::move_of_day(Falling, distance, line.side)),
     })
 }
 
-fn average_of(way: Way, days: u32, hold: u32, side: Side) -> Result<EitherAverage, MakingFault> {
-    let days = AveragingDays::new(days)?;
-    let hold = Hold::new(hold)?;
-    Ok(match way {
-        Way::Up => OneOf::First(making::average(Rising, days, hold, side)),
-        Way::Down => OneOf::Second(making::average(Falling, days, hold, side)),
+fn average_of(line: AverageLine) -> Result<EitherAverage, MakingFault> {
+    let days = AveragingDays::new(line.days)?;
+    let hold = Hold::new(line.hold)?;
+    Ok(match line.way {
+        Way::Up => OneOf::First(making::average(Rising, days, hold, line.side)),
+        Way::Down => OneOf::Second(making::average(Falling, days, hold, line.side)),
     })
 }
 
@@ -92,10 +95,10 @@ fn exit_of(line: ExitLine) -> Result<StopOrProfit, MakingFault> {
     making::stop_or_profit(base, stop, profit, trail)
 }
 
-fn batch_of(side: Side, base: u32, step: StepLine) -> Result<EitherBatch, MakingFault> {
-    let base = Price::new(base)?;
-    let step = step_of(step)?;
-    Ok(match side {
+fn batch_of(line: BatchLine) -> Result<EitherBatch, MakingFault> {
+    let base = Price::new(line.base)?;
+    let step = step_of(line.step)?;
+    Ok(match line.side {
         Side::Buy => OneOf::First(making::buy_batch(base, step)),
         Side::Sell => OneOf::Second(making::sell_batch(base, step)),
     })
@@ -109,8 +112,8 @@ fn grid_of(line: GridLine) -> Result<Range<Grid>, MakingFault> {
     let up = step_of(line.up)?;
     let range = PriceRange::new(low, high)?;
     Ok(match line.mode {
-        GridMode::Market => making::market_grid(range, base, down, up),
-        GridMode::Fill => making::fill_grid(range, base, down, up),
+        GridModeLine::Market => making::market_grid(range, base, down, up),
+        GridModeLine::Fill => making::fill_grid(range, base, down, up),
     })
 }
 
@@ -119,17 +122,10 @@ fn kind_of(line: KindLine) -> Result<Made<SingleShot, Repeating>, MakingFault> {
         KindLine::Level(level) | KindLine::Linked(level) => Made::Single(SingleShot::LevelOrMove(
             OneOf::First(level_of(level)?),
         )),
-        KindLine::Move {
-            way,
-            distance,
-            side,
-        } => Made::Single(SingleShot::LevelOrMove(OneOf::Second(move_of(way, distance, side)?))),
-        KindLine::Average {
-            way,
-            days,
-            hold,
-            side,
-        } => Made::Single(SingleShot::Average(average_of(way, days, hold, side)?)),
+        KindLine::Move(line) => Made::Single(SingleShot::LevelOrMove(OneOf::Second(move_of(
+            line,
+        )?))),
+        KindLine::Average(average) => Made::Single(SingleShot::Average(average_of(average)?)),
         KindLine::Rebound(turn) => Made::Single(SingleShot::Trail(OneOf::First(turn_of(
             turn,
             making::rebound_buy,
@@ -139,9 +135,7 @@ fn kind_of(line: KindLine) -> Result<Made<SingleShot, Repeating>, MakingFault> {
             making::fall_back_sell,
         )?))),
         KindLine::Exit(exit) => Made::Single(SingleShot::StopOrProfit(exit_of(exit)?)),
-        KindLine::Batch { side, base, step } => Made::Repeating(Repeating::Batch(batch_of(
-            side, base, step,
-        )?)),
+        KindLine::Batch(batch) => Made::Repeating(Repeating::Batch(batch_of(batch)?)),
         KindLine::Grid(grid) => Made::Repeating(Repeating::Grid(grid_of(grid)?)),
     })
 }

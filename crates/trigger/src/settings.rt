@@ -8,8 +8,8 @@ use values::limit::Limit;
 #[derive(Clone, Copy)]
 pub(crate) struct Settings {
     pub(crate) limit: Limit,
-    pub(crate) rows: u32,
-    pub(crate) places: u32,
+    pub(crate) rows: usize,
+    pub(crate) places: usize,
 }
 
 impl Settings {
@@ -32,19 +32,19 @@ impl Settings {
         match line {
             Line::Limit(value) => Some((Head::Word("limit"), self.set_limit(*value))),
             Line::Rows(rows) => {
-                self.rows = *rows;
+                self.rows = *rows as usize;
                 Some((Head::Word("rows"), Ok(Granted::Done)))
             }
             Line::Places(places) => {
-                self.places = *places;
+                self.places = *places as usize;
                 Some((Head::Word("places"), Ok(Granted::Done)))
             }
             Line::Place(place) => {
                 let fault = condition_of(place).err()?;
-                Some((Head::of_place(place), Err(fault.into())))
+                Some((Head::Place(place.order()), Err(fault.into())))
             }
-            Line::Order(order) if matches!(order.ask, Ask::Settle(_)) => Some((
-                Head::Order(*order),
+            Line::Order(asked) if matches!(asked.ask, Ask::Settle(_)) => Some((
+                Head::Order(*asked),
                 Err(Refusal::NoTicket),
             )),
             _ => None,

@@ -1,6 +1,10 @@
 // One book of the house: its desk, and the places that its slips are written to.
-use crate::answering::{Answer, Granted, Refusal, print_slip};
-use crate::line::{Ask, BookName, OrderLine};
+ghost use Rattle.std.specs.Prelude.{◌<◌};
+ghost use Rattle.std.specs.Option.{IfSome};
+ghost use Rattle.std.specs.VecDeque.{deque_len};
+
+use crate::answering::{Answer, Granted, Refusal};
+use crate::line::{Ask, BookName, OrderLine, OrderName};
 use book::desk::Desk;
 use book::row::Row;
 use book::ticket::Ticket;
@@ -12,22 +16,21 @@ use rules::quote::Quote;
 use rules::slip::{Outcome, Slip};
 use std::alloc::{AllocError, Global};
 use std::collections::VecDeque;
-use std::io;
 use values::limit::Limit;
 use values::price::Price;
 use values::range::PriceRange;
 
 // A book uses no more rows.
-pub(crate) const GREATEST_ROWS: u32 = 4096;
+pub(crate) const GREATEST_ROWS: usize = 4096;
 
 // Rows for a book, as many as are asked for, but none that it would not use.
 pub(crate) fn vacant_rows<C: Copy>(
     heap: Global,
-    rows: u32,
+    rows: usize,
     condition: C,
 ) -> Result<Vec<Row<C>>, AllocError> {
     let mut table = Vec::new(heap);
-    table.resize(GREATEST_ROWS.min(rows) as usize, Row::vacant(condition))?;
+    table.resize(GREATEST_ROWS.min(rows), Row::vacant(condition))?;
     Ok(table)
 }
 
@@ -46,7 +49,7 @@ fn blank_slip() -> Slip {
 }
 
 // A call that is made of both books. It is named here and made in `hear`: no one closure could serve both desks, which hold
-// conditions of different types.
+// conditions of different types, and a trait object for the desk would only repeat the calls.
 #[derive(Clone, Copy)]
 pub(crate) enum Call<'a> {
     List(u8, &'a [u32]),
@@ -55,13 +58,28 @@ pub(crate) enum Call<'a> {
     Burst(&'a [Quote]),
 }
 
+// What a call is answered with, and the slips that it wrote.
+#[derive(Clone, Copy)]
+pub(crate) struct Heard<'a> {
+    pub(crate) answer: Answer,
+    pub(crate) slips: &'a [Slip],
+}
+
+fn without_slips<'a>(answer: Answer) -> Heard<'a> {
+    Heard { answer, slips: &[] }
+}
+
+// A ticket that the house holds, with the order that was claimed.
+pub(crate) struct Held {
+    pub(crate) order: OrderName,
+    pub(crate) ticket: Ticket,
+}
+
 #[derive(Drop)]
 pub(crate) struct SlipDesk<'a, C> {
     desk: Desk<'a, C>,
     // the places, which stay for the next call
     slips: Vec<Slip>,
-    // how many slips the latest call wrote, in the first places
-    written: usize,
     // how many orders were placed so far
     orders: usize,
 }
@@ -76,7 +94,6 @@ impl<'a, C: Condition + Drop> SlipDesk<'a, C> {
         SlipDesk {
             desk: Desk::new(rows, book.number(), limit),
             slips: Vec::new(heap),
-            written: 0,
             orders: 0,
         }
     }
@@ -89,10 +106,7 @@ impl<'a, C: Condition + Drop> SlipDesk<'a, C> {
 
     // Provides the places that are asked for, but none that no order could fill: each writes at most one slip a quote.
     fn provide(&mut self, places: usize, quotes: usize) -> Result<(), AllocError> {
-        let most = self
-            .orders
-            .min(GREATEST_ROWS as usize)
-            .saturating_mul(quotes);
+        let most = self.orders.min(GREATEST_ROWS).saturating_mul(quotes);
         self.slips.resize(places.min(most), blank_slip())
     }
 
@@ -106,22 +120,28 @@ impl<'a, C: Condition + Drop> SlipDesk<'a, C> {
         Ok(Granted::Done)
     }
 
-    fn quote(&mut self, quote: Quote) -> Answer {
-        self.written = self.desk.quote(quote, self.slips.as_mut_slice())?;
-        Ok(Granted::Slips(self.written))
+    fn quote(&mut self, quote: Quote) -> Heard<'_> {
+        match self.desk.quote(quote, self.slips.as_mut_slice()) {
+            Ok(written) => Heard {
+                answer: Ok(Granted::Slips(written)),
+                slips: &self.slips[..written],
+            },
+            Err(fault) => without_slips(Err(fault.into())),
+        }
     }
 
-    fn burst(&mut self, quotes: &[Quote]) -> Answer {
+    fn burst(&mut self, quotes: &[Quote]) -> Heard<'_> {
         let burst = self.desk.burst(quotes, self.slips.as_mut_slice());
-        self.written = burst.written;
-        Ok(Granted::Burst(burst))
+        Heard {
+            answer: Ok(Granted::Burst(burst)),
+            slips: &self.slips[..burst.written],
+        }
     }
 
-    pub(crate) fn hear(&mut self, call: Call, places: usize) -> Result<Answer, AllocError> {
-        self.written = 0;
+    pub(crate) fn hear(&mut self, call: Call, places: usize) -> Result<Heard<'_>, AllocError> {
         match call {
-            Call::List(share, closes) => Ok(self.list(share, closes)),
-            Call::Day(opening) => Ok(self.open_day(opening)),
+            Call::List(share, closes) => Ok(without_slips(self.list(share, closes))),
+            Call::Day(opening) => Ok(without_slips(self.open_day(opening))),
             Call::Quote(quote) => {
                 self.provide(places, 1)?;
                 Ok(self.quote(quote))
@@ -131,14 +151,6 @@ impl<'a, C: Condition + Drop> SlipDesk<'a, C> {
                 Ok(self.burst(quotes))
             }
         }
-    }
-
-    // Prints the slips of the latest call, and answers how many.
-    pub(crate) fn print_slips(&self, rt: &HostRuntime, book: BookName) -> io::Result<usize> {
-        for slip in self.slips.iter().take(self.written) {
-            print_slip(rt, book, slip)?;
-        }
-        Ok(self.written)
     }
 
     fn cancel(&mut self, number: u32) -> Answer {
@@ -160,19 +172,20 @@ impl<'a, C: Condition + Drop> SlipDesk<'a, C> {
     // Claims an order, and holds its ticket. A ticket for which there is no memory is given up.
     fn claim(
         &mut self,
-        tickets: &mut VecDeque<Ticket>,
-        number: u32,
+        tickets: &mut VecDeque<Held>,
+        order: OrderName,
     ) -> Result<Granted, AllocError> {
-        let ticket = self.desk.claim(number);
+        let ticket = self.desk.claim(order.number);
         let granted = if ticket.is_void() {
             Granted::VoidTicket
         } else {
             Granted::Ticket
         };
-        match tickets.push_back(ticket) {
+        match tickets.push_back(Held { order, ticket }) {
             Ok(()) => Ok(granted),
             Err(back) => {
-                let _ = self.give_up(back.value);
+                let Held { order: _, ticket } = back.value;
+                let _ = self.give_up(ticket);
                 Err(AllocError)
             }
         }
@@ -181,13 +194,13 @@ impl<'a, C: Condition + Drop> SlipDesk<'a, C> {
     // Settles by the oldest ticket for the order.
     fn settle(
         &mut self,
-        tickets: &mut VecDeque<Ticket>,
-        order: &OrderLine,
+        tickets: &mut VecDeque<Held>,
+        order: OrderName,
         fill: Option<u32>,
     ) -> Answer {
         let at = oldest(tickets, order).ok_or(Refusal::NoTicket)?;
         let price = fill.map(Price::new).transpose()?;
-        let ticket = tickets.remove(at).ok_or(Refusal::NoTicket)?;
+        let Held { order: _, ticket } = tickets.remove(at).unwrap();
         self.spend(ticket, price)
     }
 
@@ -197,12 +210,13 @@ impl<'a, C: Condition + Drop> SlipDesk<'a, C> {
 
     pub(crate) fn ask(
         &mut self,
-        tickets: &mut VecDeque<Ticket>,
-        order: &OrderLine,
+        tickets: &mut VecDeque<Held>,
+        line: &OrderLine,
     ) -> Result<Answer, AllocError> {
-        match order.ask {
+        let order = line.order;
+        match line.ask {
             Ask::Cancel => Ok(self.cancel(order.number)),
-            Ask::Claim => self.claim(tickets, order.number).map(Ok),
+            Ask::Claim => self.claim(tickets, order).map(Ok),
             Ask::Settle(fill) => Ok(self.settle(tickets, order, fill)),
             Ask::State => Ok(self.state(order.number)),
         }
@@ -210,7 +224,8 @@ impl<'a, C: Condition + Drop> SlipDesk<'a, C> {
 }
 
 // The place of the oldest ticket for the order.
-fn oldest(tickets: &VecDeque<Ticket>, order: &OrderLine) -> Option<usize> {
-    tickets.iter().position(|ticket| ticket.book() == order.book.number()
-        && ticket.number() == order.number)
+fn oldest(tickets: &VecDeque<Held>, order: OrderName) -> Option<usize>
+    ensures { IfSome result (λ at. at < deque_len tickets.now) }
+{
+    tickets.iter().position(|held| held.order == order)
 }

@@ -3,14 +3,15 @@ use std::alloc::AllocError;
 use thiserror::Error;
 use values::decimal::DecimalFault;
 
-// What is wrong with one word. It holds no text: the borrow check follows a reader that is handed on only if its fault holds no reference.
+// What is wrong with one word. It does not quote the word: `Words::field` takes the readers as values, and the borrow check
+// allows that only if what they answer holds no reference.
 #[derive(Clone, Copy, Debug, Error)]
 pub(crate) enum WordFault {
     #[error("not a whole number")]
     NotWhole,
     #[error("a number too large for its field")]
     TooLarge,
-    // It is no price, or its number no percentage.
+    // of a price, or of the number before a percentage's sign
     #[error("{0}")]
     Decimal(#[from] DecimalFault),
     #[error("not a percentage such as 0.10%")]
@@ -24,26 +25,26 @@ pub(crate) enum WordFault {
 // What is wrong with a line.
 #[derive(Clone, Copy, Debug, Error)]
 pub(crate) enum Unreadable {
-    // It is not UTF-8.
+    // not UTF-8
     #[error("not text")]
     NotText,
-    // No line begins with its first word.
+    // no line begins with its first word
     #[error("unknown word")]
     UnknownWord,
     #[error("too few words")]
     TooFewWords,
     #[error("too many words")]
     TooManyWords,
-    // A field, and what is wrong with its word.
+    // a field, and what is wrong with its word
     #[error("{0}: {1}")]
     Field(&'static str, WordFault),
-    // A field, and the two words of which its word is neither.
+    // a field, and the two words that alone could stand there
     #[error("{0}: not {1} or {2}")]
     Neither(&'static str, &'static str, &'static str),
-    // It sets what can only be set before the first call.
+    // it sets what can only be set before the first call
     #[error("only before the first call")]
     TooLate,
-    // It stands among the quotes of a burst and is none.
+    // it stands where a burst wants a quote, and is none
     #[error("not a quote of the burst")]
     NotQuote,
 }

@@ -26,7 +26,7 @@ pub(crate) fn read_number(text: &str) -> Result<u32, WordFault>
     })
 }
 
-// A whole number up to 255.
+// A whole number up to 255. It and the next are two functions, not one over the type: each clause says its own bound.
 pub(crate) fn read_byte(text: &str) -> Result<u8, WordFault>
     ensures { result_ok result ≡ fitting (2 ^ 8) (whole_read text.now) }
 {
@@ -64,7 +64,7 @@ pub(crate) fn read_step(text: &str) -> Result<StepLine, WordFault>
     }
 }
 
-// The seconds of a day at a time of it. The hours are not held to a day: that is left to the core.
+// A time of the day in seconds since its midnight. The hours may pass 23: the core refuses such a moment.
 fn clock_seconds(hours: u32, minutes: u32, seconds: u32) -> Result<u32, WordFault>
     ensures { result_ok result ≡ clock hours minutes seconds }
 {
@@ -104,7 +104,7 @@ pub(crate) struct Words<'a> {
 }
 
 impl<'a> Words<'a> {
-    pub(crate) fn of(text: &'a str) -> Words<'a> {
+    pub(crate) fn new(text: &'a str) -> Words<'a> {
         Words {
             left: text.split_whitespace().peekable(),
         }
