@@ -46,15 +46,14 @@ onward_more k a slips s b =
 abbrev answer_of : Run → State × Reply
 answer_of b = (b.state, burst_wrote b.count b.slips b.fault)
 
--- k quotes of the first i are taken, and wrote the first w slips; the places held ps, and ss is what they hold now
-pub record Bursting (su₀ su : Setup) (qs : List Quote) (s₀ s : State) (ps ss : List Slip) (k w i : ℕ) : Type 0 where
+-- the first k quotes are taken, and wrote the first w slips; the places held ps, and ss is what they hold now
+pub record Bursting (su₀ su : Setup) (qs : List Quote) (s₀ s : State) (ps ss : List Slip) (k w : ℕ) : Type 0 where
   pub within : w ≤ length ps
-  pub counted : k ≤ i
-  pub onwards : onward k (take w ss) (bursts su₀ s (drop i qs) (length ps - w)) ≡ bursts su₀ s₀ qs (length ps)
+  pub onwards : onward k (take w ss) (bursts su₀ s (drop k qs) (length ps - w)) ≡ bursts su₀ s₀ qs (length ps)
   pub rest : drop w ss ≡ drop w ps
   pub setup : su ≡ su₀
 
-module _ {su₀ su : Setup} {qs : List Quote} {s₀ s : State} {ps ss : List Slip} {k w i : ℕ} (p : Bursting su₀ su qs s₀ s ps ss k w i) (long : length ss ≡ length ps) where
+module _ {su₀ su : Setup} {qs : List Quote} {s₀ s : State} {ps ss : List Slip} {k w : ℕ} (p : Bursting su₀ su qs s₀ s ps ss k w) (long : length ss ≡ length ps) where
   -- the places after the slips already there
   abbrev tail : List Slip
   tail = take (length ss - w) (drop w ss)
@@ -75,23 +74,23 @@ module _ {su₀ su : Setup} {qs : List Quote} {s₀ s : State} {ps ss : List Sli
       ap (λ z. take w ss ++ (ys ++ z)) (drop_all (length ss - w) (drop w ss) l) ∙ ap (λ z. take w ss ++ z) (append-nil ys)
 
   -- the end, where what is left adds nothing
-  ended : (s₂ : State) (f : Option PlacingFault) → bursts su₀ s (drop i qs) (length ps - w) ≡ record { state = s₂; count = 0; slips = []; fault = f }
+  ended : (s₂ : State) (f : Option PlacingFault) → bursts su₀ s (drop k qs) (length ps - w) ≡ record { state = s₂; count = 0; slips = []; fault = f }
       → (s₂, burst_wrote k (take w ss) f) ≡ step su₀ s₀ (burst qs (length ps))
   ended s₂ f e =
       let c : k ≡ k + 0 = omega arith in
       ap₂ (λ n z. (s₂, burst_wrote n z f)) c (sym (append-nil (take w ss)))
       ∙ ap answer_of (sym (ap (onward k (take w ss)) e) ∙ p.onwards)
 
-  -- the quote at i, which leaves the state s₂ and ys in the places; d is any quote
-  module _ (d : Quote) (h : i < length qs) (su₂ : Setup) (s₂ : State) (ys : List Slip) (same : su₂ ≡ su) where
+  -- the quote at k, which leaves the state s₂ and ys in the places; d is any quote
+  module _ (d : Quote) (h : k < length qs) (su₂ : Setup) (s₂ : State) (ys : List Slip) (same : su₂ ≡ su) where
     abbrev q : Quote
-    q = get_or qs i d
+    q = get_or qs k d
 
     abbrev further : Run
-    further = bursts su₀ (state_after su₀ s (quoting q (length ps - w))) (drop (i + 1) qs) (length ps - w - length (quote_slips su₀ s q (length ps - w)))
+    further = bursts su₀ (state_after su₀ s (quoting q (length ps - w))) (drop (k + 1) qs) (length ps - w - length (quote_slips su₀ s q (length ps - w)))
 
-    at_quote : bursts su₀ s (drop i qs) (length ps - w) ≡ one_more (first_fault (quote_call_checks s q (length ps - w))) s (quote_slips su₀ s q (length ps - w)) further
-    at_quote = ap (λ z. bursts su₀ s z (length ps - w)) (drop_more qs i d h)
+    at_quote : bursts su₀ s (drop k qs) (length ps - w) ≡ one_more (first_fault (quote_call_checks s q (length ps - w))) s (quote_slips su₀ s q (length ps - w)) further
+    at_quote = ap (λ z. bursts su₀ s z (length ps - w)) (drop_more qs k d h)
 
     by_setup : step su s (single (quoting q (length tail))) ≡ step su₀ s (single (quoting q (length ps - w)))
     by_setup = ap₂ (λ a b. step a s (single (quoting q b))) p.setup tail_length
@@ -103,12 +102,12 @@ module _ {su₀ su : Setup} {qs : List Quote} {s₀ s : State} {ps ss : List Sli
         let n : ℕ = length ps - w in
         let b = err_by su₀ s s₂ q n f (first_fault (quote_call_checks s q n)) (e ∙ by_setup) in
         let v : filled ys ≡ ss = put_is ys ∙ ap (λ z. take w ss ++ z) (y ∙ tail_is) ∙ take-append-drop w ss in
-        let o : bursts su₀ s (drop i qs) n ≡ record { state = s; count = 0; slips = []; fault = Some f } = at_quote ∙ ap (λ x. one_more x s (quote_slips su₀ s q n) further) b.0 in
+        let o : bursts su₀ s (drop k qs) n ≡ record { state = s; count = 0; slips = []; fault = Some f } = at_quote ∙ ap (λ x. one_more x s (quote_slips su₀ s q n) further) b.0 in
         (ap₂ (λ a z. (a, burst_wrote k (take w z) (Some f))) b.1 v ∙ ended s (Some f) o, same ∙ p.setup)
 
     -- it is taken, and wrote m slips
     pub burst_more : (m : ℕ) → (s₂, wrote (take m ys)) ≡ step su s (single (quoting q (length tail))) → m ≤ length tail → length ys ≡ length tail → drop m ys ≡ drop m tail
-        → Bursting su₀ su₂ qs s₀ s₂ ps (filled ys) (k + 1) (w + m) (i + 1)
+        → Bursting su₀ su₂ qs s₀ s₂ ps (filled ys) (k + 1) (w + m)
     burst_more m e few size back =
         let n : ℕ = length ps - w in
         let f : List Slip = quote_slips su₀ s q n in
@@ -123,10 +122,9 @@ module _ {su₀ su : Setup} {qs : List Quote} {s₀ s : State} {ps ss : List Sli
         let g : take (w + m) (filled ys) ≡ take w ss ++ f = ap (take (w + m)) t ∙ take_at (take w ss ++ take m ys) (drop m ys) (w + m) u ∙ ap (λ z. take w ss ++ z) b.2 in
         record {
           within = omega (arith, few, tail_length, v);
-          counted = omega (arith, p.counted);
           onwards =
-              ap (λ z. onward (k + 1) z (bursts su₀ s₂ (drop (i + 1) qs) (length ps - (w + m)))) g
-              ∙ ap₂ (λ y z. onward (k + 1) (take w ss ++ f) (bursts su₀ y (drop (i + 1) qs) z)) b.1 x
+              ap (λ z. onward (k + 1) z (bursts su₀ s₂ (drop (k + 1) qs) (length ps - (w + m)))) g
+              ∙ ap₂ (λ y z. onward (k + 1) (take w ss ++ f) (bursts su₀ y (drop (k + 1) qs) z)) b.1 x
               ∙ onward_more k (take w ss) f s further
               ∙ sym (ap (onward k (take w ss)) (at_quote ∙ ap (λ y. one_more y s f further) b.0))
               ∙ p.onwards;

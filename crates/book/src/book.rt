@@ -12,11 +12,12 @@ mod placing;
 mod telling;
 
 // Rows past these are never used.
-const GREATEST_ROWS: usize = 4096;
+pub const GREATEST_ROWS: usize = 4096;
 
 #[derive(Drop)]
 pub struct Book<'a, C> {
-    // the orders stand first, in order of placing; what stands past them is of no use
+    // the caller provides the rows, and the book needs no heap: the orders stand first, in order of placing, and what stands past
+    // them is of no use
     rows: &'a mut [Row<C>],
     count: usize,
     number: u32,

@@ -1,4 +1,4 @@
-ghost use Rattle.std.specs.Prelude.{◌≡◌, true, false, if◌then◌else◌, Some, None};
+ghost use Rattle.std.specs.Prelude.{◌≡◌, false, if◌then◌else◌, Some, None};
 ghost use Rattle.conditions.specs.Meaning.{ends};
 ghost use Rattle.conditions.specs.declared.event.Answer.TheVariants as answer;
 ghost use Rattle.market.specs.View.{market_of};
@@ -25,6 +25,7 @@ use values::price::Price;
 // One order of a book. The traded share's prices stand in the market.
 #[derive(Clone, Copy, Drop)]
 pub struct Row<C> {
+    // as they came in: the rules' definitions take just these
     terms: Terms,
     state: OrderState,
     // what was sent, counted where the order allows a total
@@ -70,17 +71,7 @@ impl<C> Row<C> {
     pub fn vacant(condition: C) -> Row<C>
         ensures { result.condition ≡ condition }
     {
-        let terms = Terms {
-            number: 0,
-            watched: 0,
-            traded: 0,
-            choice: 0,
-            own_price: 0,
-            quantity: 0,
-            total: 0,
-            limit_mark: false,
-        };
-        Row::new(terms, condition)
+        Row::new(Terms::default(), condition)
     }
 
     pub(crate) fn number(&self) -> u32
@@ -136,7 +127,7 @@ impl<C: Condition> Row<C> {
         self.terms.watched == share && self.state == OrderState::Watching
     }
 
-    // What follows a fire of an order that watched: whether it stays, and whether it waits.
+    // Does what follows a fire of an order that watched, and answers whether the order stays.
     fn follow(&mut self, next: Next, outcome: Outcome, price: Price) -> bool
         requires { self.old.state ≡ state.Watching }
         ensures machine { (mk : Table) → (if result then (row_view C.Condition.meaning mk self.new).machine else None) ≡ follows next outcome (C.Condition.meaning self.old.condition) (notes_of mk self.old) price }
@@ -185,17 +176,13 @@ impl<C: Condition> Row<C> {
             };
         }
         match self.condition.tell(Event::Tick(tick)) {
-            Answer::Wait => Told {
-                slip: None,
-                stays: true,
-            },
             Answer::Fires(fire) => {
                 let prices = market.prices_of(self.terms.traded);
                 self.fire(fire, tick, limit, prices)
             }
-            Answer::Lapses => Told {
+            answer => Told {
                 slip: None,
-                stays: false,
+                stays: !is_last(answer),
             },
         }
     }

@@ -55,17 +55,20 @@ fn is_beyond_limit(side: Side, limit: Limit, trigger: Price, price: u32) -> bool
 {
     let trigger = trigger.value();
     let allowed = limit.value() as u64 * trigger as u64;
-    match side {
-        Side::Buy => trigger < price && allowed < (price - trigger) as u64 * WHOLE,
-        Side::Sell => price < trigger && allowed < (trigger - price) as u64 * WHOLE,
-    }
+    let past = match side {
+        Side::Buy => price.saturating_sub(trigger),
+        Side::Sell => trigger.saturating_sub(price),
+    };
+    allowed < past as u64 * WHOLE
 }
 
 // The limit holds for orders that bear its mark, unless they ask for their own price.
 fn is_held_back(terms: &Terms, limit: Limit, fire: &Fire, price: u32) -> bool
     ensures { result ≡ held_back terms.now limit.value fire.now price }
 {
-    terms.limit_mark && terms.choice != 0 && is_beyond_limit(fire.side, limit, fire.trigger, price)
+    terms.limit_mark
+        && terms.choice != PriceChoice::OwnPrice.number()
+        && is_beyond_limit(fire.side, limit, fire.trigger, price)
 }
 
 // The outcome of a fire, where so much was sent before and the traded share has these prices.

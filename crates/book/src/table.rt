@@ -53,6 +53,7 @@ fn keep<C>(rows: &mut [Row<C>], at: usize, i: usize, stays: bool) -> usize
 }
 
 // Tells the orders that watch the share a tick, in order of placing: the slips fill from the first place, and rows move up where an order leaves.
+// Share, tick and limit come one by one, as in the rows' `tell_tick`.
 pub(crate) fn tell_tick<C: Condition>(
     rows: &mut [Row<C>],
     share: u8,
@@ -83,7 +84,8 @@ pub(crate) fn tell_day<C: Condition>(rows: &mut [Row<C>], share: u8, day: Day) -
     ensures within { result ≤ length rows.old }
     ensures table { (mk : Table) → rows_view C.Condition.meaning mk (take result rows.new) ≡ dayed_rows share day (rows_view C.Condition.meaning mk rows.old) }
 {
-    // as in `tell_tick`, over places
+    // over places, as in `tell_tick`; one loop for both would tell the rows by a closure that holds the market and the slips, which
+    // is no plainer than these three lines
     let mut stay = 0;
     for i in 0..rows.len() {
         let stays = rows[i].tell_day(share, day);

@@ -3,6 +3,7 @@ ghost use Rattle.std.specs.Prelude.{◌≡◌, true, false};
 // The right to settle the order that a claim names, unless it is void. It may be let go only when it is spent: a rule of the
 // project, which `drop` asks of the mark `spent`.
 pub struct Ticket {
+    // its book and number are shown also where it is void
     void: bool,
     book: u32,
     number: u32,

@@ -4,7 +4,7 @@ use Rattle.values.specs.Ranges.{whole}
 use Rattle.values.specs.declared.range.PriceRange.{PriceRange}
 use Rattle.conditions.specs.Layers.{until, in_range, either}
 use Rattle.conditions.specs.Meaning.{Meaning, Repeats, Proper}
-use Rattle.conditions.specs.declared.layer.pile.Bounds.{Bounds}
+use Rattle.conditions.specs.declared.layer.range.Bounds.{Bounds}
 
 -- a meaning that keeps both laws
 pub record Lawful (m : Meaning) : Type 0 where

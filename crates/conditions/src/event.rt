@@ -38,7 +38,7 @@ pub enum Side {
     Sell,
 }
 
-// What follows a fire. Of two fires at once the later one of this order follows.
+// What follows a fire. Of two at once, the one that stands later here follows.
 #[derive(Clone, Copy, PartialEq, Eq, PartialOrd, Ord, Debug)]
 pub enum Next {
     GoesOn,

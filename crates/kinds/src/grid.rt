@@ -32,6 +32,7 @@ pub struct GridTerms {
     pub up: Step,
 }
 
+// What a grid waits for: a price at a target of its base, or the settlement that gives the next base.
 // No Option of a base: the laws name both stages.
 #[derive(Clone, Copy)]
 pub enum GridStage {

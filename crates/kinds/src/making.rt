@@ -1,5 +1,7 @@
 // The makers of the kinds, as orders are placed with them. Their contracts say what the made condition means,
 // and name the laws above those definitions that go event by event.
+// Rebound and fall back, the two batches and the two grids are makers of their own, since each names its own law;
+// what they share stands in Trail, Batch and Grid.
 ghost use Rattle.std.specs.Prelude.{◌≡◌};
 ghost use Rattle.values.specs.Making.{seen};
 ghost use Rattle.values.specs.Directions.{rising_order, rising_target, falling_order, falling_target};
@@ -23,7 +25,7 @@ use crate::trail::{Trail, TrailOptions, TrailTerms};
 use conditions::condition::Condition;
 use conditions::event::Side;
 use conditions::layer::either::Either;
-use conditions::layer::range::Range;
+use conditions::layer::range::{Bounds, Range};
 use values::days::AveragingDays;
 use values::direction::{Direction, Falling, Rising};
 use values::fault::MakingFault;
@@ -93,7 +95,7 @@ pub fn stop_or_profit(
     Ok(Either::new(level(Falling, low, Side::Sell), profit_at(high, trail)))
 }
 
-// Buys on the rebound from a low.
+// Buys when the price rises by a step from the least one since it came down to the mark.
 pub fn rebound_buy(mark: Price, step: Step, options: TrailOptions) -> Trail<Rising>
     ensures means { ⟦<Trail<Rising> as Condition>⟧.meaning result ≡ rebound mark step options }
     ensures least { LeastIsLeast rising_order }
@@ -107,7 +109,7 @@ pub fn rebound_buy(mark: Price, step: Step, options: TrailOptions) -> Trail<Risi
     Trail::new(Rising, terms)
 }
 
-// Sells on the fall from a top.
+// Sells when the price falls by a step from the greatest one since it came up to the mark.
 pub fn fall_back_sell(mark: Price, step: Step, options: TrailOptions) -> Trail<Falling>
     ensures means { ⟦<Trail<Falling> as Condition>⟧.meaning result ≡ fall_back mark step options }
     ensures least { LeastIsLeast falling_order }
@@ -147,7 +149,11 @@ pub fn market_grid(range: PriceRange, base: Price, down: Step, up: Step) -> Rang
         down,
         up,
     };
-    Range::new(range, true, Grid::new(terms, base))
+    let bounds = Bounds {
+        range,
+        switch: true,
+    };
+    Range::new(bounds, Grid::new(terms, base))
 }
 
 // A grid in fill mode under its range: what fires outside lapses.
@@ -160,5 +166,9 @@ pub fn fill_grid(range: PriceRange, base: Price, down: Step, up: Step) -> Range<
         down,
         up,
     };
-    Range::new(range, false, Grid::new(terms, base))
+    let bounds = Bounds {
+        range,
+        switch: false,
+    };
+    Range::new(bounds, Grid::new(terms, base))
 }

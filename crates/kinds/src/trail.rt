@@ -29,7 +29,7 @@ pub struct TrailTerms {
     pub options: TrailOptions,
 }
 
-// No Option of an extreme: each state is told an event in an arm of its own.
+// No Option of an extreme: the trail's definition names both states.
 #[derive(Clone, Copy)]
 pub enum TrailState {
     // no price has come to the mark yet
@@ -58,7 +58,7 @@ impl<D: Direction> Trail<D> {
         }
     }
 
-    // The watch begins with the first price that has not come past the mark.
+    // The watch begins with the first price at the mark or further back.
     fn begin(&self, price: Price) -> TrailState
         ensures { result ≡ begun D.Direction.order self.now.terms price }
     {
@@ -127,9 +127,9 @@ impl<D: Direction> Condition for Trail<D> {
                 Answer::Wait
             }
             (TrailState::Tracking { extreme }, Event::Tick(t)) => {
-                let low = self.further(extreme, t.price);
-                let fire = self.judge(extreme, low, t.price);
-                self.state = TrailState::Tracking { extreme: low };
+                let furthest = self.further(extreme, t.price);
+                let fire = self.judge(extreme, furthest, t.price);
+                self.state = TrailState::Tracking { extreme: furthest };
                 fire
             }
             (_, Event::Day(_)) | (_, Event::Settlement(_)) => Answer::Wait,

@@ -49,9 +49,7 @@ impl Market {
         ensures answer { result_err result ≡ number_refusal number }
         ensures view { IfOk result (λ s. share_view s.now ≡ market_of self.now.shares number) }
     {
-        self.shares
-            .get(usize::from(number))
-            .ok_or(MarketFault::Share)
+        Ok(&self.shares[place_of(number)?])
     }
 
     // Lists a share with its closes, the oldest first.

@@ -127,9 +127,8 @@ impl PlacingFault {
             PlacingFault::Number => 20,
             PlacingFault::InBook => 21,
             PlacingFault::NoRow => 22,
-            PlacingFault::Watched(f) => f.number(),
-            PlacingFault::Traded(f) => f.number(),
-            PlacingFault::Market(f) => f.number(),
+            PlacingFault::Watched(f) | PlacingFault::Traded(f) | PlacingFault::Market(f) =>
+                f.number(),
             PlacingFault::Quantity => 23,
             PlacingFault::Total => 24,
             PlacingFault::Choice => 25,

@@ -8,42 +8,28 @@ use crate::fault::PlacingFault;
 // Where an order's price comes from: its own, or the traded share's prices as its slip is written.
 #[derive(Clone, Copy, PartialEq, Eq, Debug)]
 pub enum PriceChoice {
-    OwnPrice,
-    Last,
-    Bid1,
-    Bid2,
-    Bid3,
-    Bid4,
-    Bid5,
-    Ask1,
-    Ask2,
-    Ask3,
-    Ask4,
-    Ask5,
+    OwnPrice = 0,
+    Last = 1,
+    Bid1 = 2,
+    Bid2 = 3,
+    Bid3 = 4,
+    Bid4 = 5,
+    Bid5 = 6,
+    Ask1 = 7,
+    Ask2 = 8,
+    Ask3 = 9,
+    Ask4 = 10,
+    Ask5 = 11,
     // what the house takes where the client leaves the choice open
-    HouseDefault,
+    HouseDefault = 12,
 }
 
 impl PriceChoice {
-    // The number that stands for the choice: each beside its name, as in the definition.
+    // The number that stands for the choice, as its definition has it.
     pub fn number(&self) -> u8
         ensures { result ≡ choice_number self.now }
     {
-        match self {
-            PriceChoice::OwnPrice => 0,
-            PriceChoice::Last => 1,
-            PriceChoice::Bid1 => 2,
-            PriceChoice::Bid2 => 3,
-            PriceChoice::Bid3 => 4,
-            PriceChoice::Bid4 => 5,
-            PriceChoice::Bid5 => 6,
-            PriceChoice::Ask1 => 7,
-            PriceChoice::Ask2 => 8,
-            PriceChoice::Ask3 => 9,
-            PriceChoice::Ask4 => 10,
-            PriceChoice::Ask5 => 11,
-            PriceChoice::HouseDefault => 12,
-        }
+        *self as u8
     }
 }
 
@@ -74,7 +60,7 @@ impl TryFrom<u8> for PriceChoice {
 }
 
 // What an order asks for beside its condition, as it comes in: placing checks it.
-#[derive(Clone, Copy, PartialEq, Eq, Debug)]
+#[derive(Clone, Copy, PartialEq, Eq, Default, Debug)]
 pub struct Terms {
     pub number: u32,
     // the share whose days and prices the condition is told

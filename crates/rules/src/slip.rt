@@ -7,13 +7,13 @@ use values::price::Price;
 // What became of a fire.
 #[derive(Clone, Copy, PartialEq, Eq, Debug)]
 pub enum Outcome {
-    Sent,
+    Sent = 0,
     // its price lay too far on the worse side of the trigger price
-    Withheld,
+    Withheld = 1,
     // the traded share had no quote that day, or not the chosen level
-    Unpriced,
+    Unpriced = 2,
     // it would have gone beyond the total that the order allows
-    Exceeded,
+    Exceeded = 3,
 }
 
 impl Outcome {
@@ -21,12 +21,7 @@ impl Outcome {
     pub fn number(&self) -> u8
         ensures { result ≡ outcome_number self.now }
     {
-        match self {
-            Outcome::Sent => 0,
-            Outcome::Withheld => 1,
-            Outcome::Unpriced => 2,
-            Outcome::Exceeded => 3,
-        }
+        *self as u8
     }
 }
 
@@ -40,7 +35,7 @@ pub struct Slip {
     pub trigger: Price,
     // the price of the tick that fired
     pub market: Price,
-    // the price that the order asks for, or 0 where the outcome leaves it without one: a slip goes out in plain numbers
+    // the price that the order asks for, or 0 where the outcome leaves it without one, as the rules' slip has it
     pub price: u32,
     pub quantity: u32,
     pub outcome: Outcome,

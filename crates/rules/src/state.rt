@@ -4,13 +4,13 @@ ghost use Rattle.rules.specs.Numbers.{state_number};
 // How an order stands in the book.
 #[derive(Clone, Copy, PartialEq, Eq, Debug)]
 pub enum OrderState {
-    Watching,
+    Watching = 1,
     // a slip of it was sent and awaits settlement
-    Waiting,
+    Waiting = 2,
     // it waits, and a ticket for its settlement is out
-    Claimed,
+    Claimed = 3,
     // it ended while its ticket was out, and leaves once that is settled
-    EndedUnderClaim,
+    EndedUnderClaim = 4,
 }
 
 impl OrderState {
@@ -18,11 +18,6 @@ impl OrderState {
     pub fn number(&self) -> u8
         ensures { result ≡ state_number self.now }
     {
-        match self {
-            OrderState::Watching => 1,
-            OrderState::Waiting => 2,
-            OrderState::Claimed => 3,
-            OrderState::EndedUnderClaim => 4,
-        }
+        *self as u8
     }
 }

@@ -8,15 +8,15 @@ use crate::fault::MakingFault;
 // Over how many days an average is taken.
 #[derive(Clone, Copy, PartialEq, Eq, Debug)]
 pub enum AveragingDays {
-    Five,
-    Ten,
-    Twenty,
-    Thirty,
-    Sixty,
+    Five = 5,
+    Ten = 10,
+    Twenty = 20,
+    Thirty = 30,
+    Sixty = 60,
 }
 
 impl AveragingDays {
-    // A `new` and no `TryFrom`, as of all checked values.
+    // Public by this name, as the other checked values are; a `TryFrom` would be a second door.
     pub fn new(days: u32) -> Result<AveragingDays, MakingFault>
         ensures { seen day_count result ≡ (if averaged days then Ok days else Err fault.Days) }
     {
@@ -33,12 +33,6 @@ impl AveragingDays {
     pub fn count(&self) -> u32
         ensures { result ≡ day_count self.now }
     {
-        match self {
-            AveragingDays::Five => 5,
-            AveragingDays::Ten => 10,
-            AveragingDays::Twenty => 20,
-            AveragingDays::Thirty => 30,
-            AveragingDays::Sixty => 60,
-        }
+        *self as u32
     }
 }

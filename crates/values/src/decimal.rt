@@ -6,7 +6,7 @@ use std::alloc::{AllocError, Global};
 use std::fmt;
 use thiserror::Error;
 
-// What is wrong with a text that is read as a decimal number. Where several things are, the first of these is named.
+// Why a text is no decimal number. Of several faults of one text, the one that stands first here is named.
 #[derive(Clone, Copy, PartialEq, Eq, Debug, Error)]
 pub enum DecimalFault {
     // It is neither digits alone nor digits, a point and digits.

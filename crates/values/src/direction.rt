@@ -46,7 +46,8 @@ pub trait Direction {
         ensures found { is_some result ≡ order (target step base.value) price.value }
     {
         let goal = Self::target_of(step, base);
-        // No `then_some`, which would make the price first: the target is known to be a price only where it is reached.
+        // The target is known to be a price only where it is reached: `then_some` would make the price first,
+        // and the closure of a `then` would need that in a clause of its own.
         if Self::reaches(price.value as u64, goal as u64) {
             Some(Price { value: goal })
         } else {

@@ -7,28 +7,20 @@ use thiserror::Error;
 // The layers above hold this fault whole inside their own.
 #[derive(Clone, Copy, PartialEq, Eq, Debug, Error)]
 pub enum MakingFault {
-    // a price outside its ends
     #[error("making: price outside 0.1000 to 99999.9999 yuan")]
     Price,
-    // the target of a stop outside the prices
     #[error("making: target of the stop outside the prices")]
     StopTarget,
-    // the target of a profit outside the prices
     #[error("making: target of the profit outside the prices")]
     ProfitTarget,
-    // a percentage or a difference outside its ends
     #[error("making: step outside 0.10% to 50.00% or 0.0001 to 99999.9999 yuan")]
     Step,
-    // the low of a range above its high
     #[error("making: range with its low above its high")]
     Range,
-    // the seconds of a hold outside their ends
     #[error("making: hold outside 1 to 14400 seconds")]
     Hold,
-    // days over which no average is kept
     #[error("making: average over days other than 5 10 20 30 or 60")]
     Days,
-    // a limit above the whole
     #[error("making: limit above 100.00%")]
     Limit,
 }

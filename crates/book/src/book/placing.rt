@@ -1,6 +1,6 @@
 // Placing an order.
 ghost use Rattle.std.specs.Prelude.{◌≡◌, ◌<◌, length, IfOk, OnOk, Some};
-ghost use Rattle.std.specs.Result.{result_err, result_ok};
+ghost use Rattle.std.specs.Result.{result_err};
 ghost use Rattle.market.specs.View.{market_of};
 ghost use Rattle.rules.specs.Calls.{placing, single};
 ghost use Rattle.rules.specs.Checks.{first_fault};

@@ -18,7 +18,7 @@ use rules::quote::Quote;
 use rules::slip::Slip;
 use values::price::Price;
 
-// the phase in which orders are told ticks
+// The phase in which orders are told ticks: a plain number, as in a quote, whose call checks it.
 const CONTINUOUS: u8 = 1;
 
 // The tick that a quote is: in continuous trading, at the last price.
@@ -72,12 +72,11 @@ impl<'a, C: Condition> Book<'a, C> {
         let Some(tick) = tick_of(&quote) else {
             return Ok(0);
         };
-        let limit = self.limit;
         let quoted = tell_tick(
             &mut self.rows[..self.count],
             quote.share,
             tick,
-            limit,
+            self.limit,
             market,
             slips,
         );
@@ -91,14 +90,10 @@ impl<'a, C: Condition> Book<'a, C> {
         ensures count { result.written ≤ length slips.old }
         ensures rest { drop result.written slips.new ≡ drop result.written slips.old }
     {
-        let mut taken = 0;
         let mut written = 0;
-        for quote in quotes {
+        for (taken, quote) in quotes.iter().enumerate() {
             match self.quote(market, *quote, &mut slips[written..]) {
-                Ok(count) => {
-                    written += count;
-                    taken += 1;
-                }
+                Ok(count) => written += count,
                 Err(fault) => {
                     return Burst {
                         taken,
@@ -109,7 +104,7 @@ impl<'a, C: Condition> Book<'a, C> {
             }
         }
         Burst {
-            taken,
+            taken: quotes.len(),
             written,
             stop: None,
         }

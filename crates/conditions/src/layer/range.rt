@@ -6,24 +6,25 @@ use crate::condition::Condition;
 use crate::event::{Answer, Event, Fire, Next};
 use values::range::PriceRange;
 
+// A range outside of which an order ends, and whether a fire there still passes, as the last one.
+#[derive(Clone, Copy)]
+pub struct Bounds {
+    pub range: PriceRange,
+    pub switch: bool,
+}
+
 // Ends with the first tick outside a range.
 #[derive(Clone, Copy)]
 pub struct Range<C> {
-    range: PriceRange,
-    // on: a fire outside still passes, as the last one
-    switch: bool,
+    bounds: Bounds,
     below: C,
 }
 
 impl<C: Condition> Range<C> {
-    pub fn new(range: PriceRange, switch: bool, below: C) -> Range<C>
-        ensures { ⟦<Range<C> as Condition>⟧.meaning result ≡ in_range range switch (C.Condition.meaning below) }
+    pub fn new(bounds: Bounds, below: C) -> Range<C>
+        ensures { ⟦<Range<C> as Condition>⟧.meaning result ≡ in_range bounds.range bounds.switch (C.Condition.meaning below) }
     {
-        Range {
-            range,
-            switch,
-            below,
-        }
+        Range { bounds, below }
     }
 }
 
@@ -48,16 +49,16 @@ fn leave(switch: bool, answer: Answer) -> Answer
 }
 
 impl<C: Condition> Condition for Range<C> {
-    ghost meaning = { λ r. in_range r.range r.switch (C.Condition.meaning r.below) };
+    ghost meaning = { λ r. in_range r.bounds.range r.bounds.switch (C.Condition.meaning r.below) };
 
-    ghost repeats = { λ c. range_repeats c.range c.switch _ (C.Condition.repeats c.below) };
+    ghost repeats = { λ c. range_repeats c.bounds.range c.bounds.switch _ (C.Condition.repeats c.below) };
 
-    ghost proper = { λ c. range_proper c.range c.switch _ (C.Condition.proper c.below) };
+    ghost proper = { λ c. range_proper c.bounds.range c.bounds.switch _ (C.Condition.proper c.below) };
 
     fn tell(&mut self, event: Event) -> Answer {
         let answer = self.below.tell(event);
-        if is_outside(self.range, event) {
-            leave(self.switch, answer)
+        if is_outside(self.bounds.range, event) {
+            leave(self.bounds.switch, answer)
         } else {
             answer
         }

@@ -49,7 +49,7 @@ impl Sums {
         }
     }
 
-    // The sum of the closes that an average over some days takes beside the price of the day.
+    // The sum of the closes that an average over some days takes beside the price of the day, 0 where there are fewer.
     pub fn before(&self, days: AveragingDays) -> u64
         ensures value { result ≡ sum_before days self.now }
         ensures fits { T (sums (day_count days - 1) result) }

@@ -29,7 +29,7 @@ impl Limits {
         let close = price_of(opening.close)?;
         let upper = price_of(opening.upper)?;
         let lower = price_of(opening.lower)?;
-        if opening.lower <= opening.close && opening.close <= opening.upper {
+        if (opening.lower..=opening.upper).contains(&opening.close) {
             Ok(Limits {
                 close,
                 upper,

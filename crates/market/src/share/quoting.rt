@@ -9,7 +9,7 @@ use crate::share::Share;
 use rules::fault::MarketFault;
 use rules::quote::Quote;
 
-// the last phase
+// the last phase: a quote's phase comes in as a plain number, which the call below checks
 const AFTER_HOURS: u8 = 2;
 
 // the last second of the day

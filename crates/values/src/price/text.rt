@@ -40,7 +40,7 @@ impl From<MakingFault> for PriceTextFault {
 }
 
 impl Price {
-    // Reads yuan with at most four decimals.
+    // Reads yuan with at most four decimals. Public by this name, as `new` is; a `FromStr` would be a second door.
     pub fn read(text: &str) -> Result<Price, PriceTextFault>
         ensures value { result ≡ price_read text.now }
         ensures back { (p : Checked) → text.now ≡ yuan_text p.value → result ≡ Ok p }
