@@ -2,7 +2,7 @@
 use crate::answering::{Answer, Granted, Head, Refusal};
 use crate::line::{Ask, Line};
 use crate::making::condition_of;
-use crate::slip_desk::GREATEST_ROWS;
+use book::book::GREATEST_ROWS;
 use values::limit::Limit;
 
 #[derive(Clone, Copy)]

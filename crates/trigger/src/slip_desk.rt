@@ -5,6 +5,7 @@ ghost use Rattle.std.specs.VecDeque.{deque_len};
 
 use crate::answering::{Answer, Granted, Refusal};
 use crate::line::{Ask, BookName, OrderLine, OrderName};
+use book::book::GREATEST_ROWS;
 use book::desk::Desk;
 use book::row::Row;
 use book::ticket::Ticket;
@@ -19,9 +20,6 @@ use std::collections::VecDeque;
 use values::limit::Limit;
 use values::price::Price;
 use values::range::PriceRange;
-
-// A book uses no more rows.
-pub(crate) const GREATEST_ROWS: usize = 4096;
 
 // Rows for a book, as many as are asked for, but none that it would not use.
 pub(crate) fn vacant_rows<C: Copy>(
