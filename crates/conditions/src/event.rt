@@ -58,13 +58,15 @@ impl Fire {
     pub fn over_at(side: Side, trigger: Option<Price>) -> Answer
         ensures { result ≡ fires_over side trigger }
     {
-        trigger.map_or(Answer::Wait, |trigger| {
-            Answer::Fires(Fire {
+        // by match: with `map_or` each tick takes a quarter more instructions
+        match trigger {
+            Some(trigger) => Answer::Fires(Fire {
                 side,
                 trigger,
                 next: Next::Over,
-            })
-        })
+            }),
+            None => Answer::Wait,
+        }
     }
 }
 

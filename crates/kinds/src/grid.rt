@@ -52,7 +52,11 @@ impl GridMode {
         ensures { result ≡ allowed self.now target }
     {
         match self {
-            GridMode::Market(range) => target.filter(|t| range.contains(*t)),
+            // by match: with `filter` a grid's tick takes a tenth more instructions
+            GridMode::Market(range) => match target {
+                Some(t) if range.contains(t) => Some(t),
+                _ => None,
+            },
             GridMode::Fill => target,
         }
     }
