@@ -214,6 +214,7 @@ impl<C: Condition> Row<C> {
             return false;
         }
         self.state = OrderState::Watching;
+        // by match: telling the condition changes the row, which a closure would have to capture
         match fill.or(self.market) {
             Some(price) => !is_last(self.condition.tell(Event::Settlement(price))),
             None => true,

@@ -13,7 +13,7 @@ use market::market::Market;
 use rules::slip::Slip;
 use values::limit::Limit;
 
-// What a tick led to: how many rows stay, and how many slips were written.
+// What a tick led to: how many rows stay, and how many slips were written. Counts, since rows and places are the caller's.
 #[derive(Clone, Copy)]
 pub(crate) struct Quoted {
     pub(crate) stay: usize,

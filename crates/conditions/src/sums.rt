@@ -5,7 +5,7 @@ pub mod making;
 
 // The sums of a share's newest 4, 9, 19, 29 and 59 closes, each 0 where there are fewer.
 // Not an `Option` each: no prices sum to 0, and the rules' laws of a day's sums say it as 0.
-// Five fields and no const parameter: those laws name each of them.
+// Five fields and no const parameter: those laws name each of them. What a sum can be is said by one definition, here and in clauses.
 #[derive(Clone, Copy, PartialEq, Eq, Debug)]
 pub struct Sums {
     four: u64,

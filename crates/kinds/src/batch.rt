@@ -40,6 +40,7 @@ impl<D: Direction> Condition for Batch<D> {
 
     fn tell(&mut self, event: Event) -> Answer {
         match event {
+            // by match: one arm changes the batch, which a closure would have to capture
             Event::Tick(t) => match D::reached(self.step, self.base, t.price) {
                 Some(trigger) => {
                     self.base = t.price;

@@ -127,6 +127,7 @@ impl Condition for Grid {
 
     fn tell(&mut self, event: Event) -> Answer {
         match (self.stage, event) {
+            // by match: one arm changes the grid, which a closure would have to capture
             (GridStage::Watching { base }, Event::Tick(t)) => match self.fired(base, t.price) {
                 Some(fire) => {
                     self.stage = self.terms.mode.stage_after_fire(t.price);

@@ -16,7 +16,7 @@ use rules::quote::{Levels, Quote};
 // Shares are numbered from 0.
 const SHARES: usize = 64;
 
-// The shares by their numbers.
+// The shares by their numbers. An array: there is no heap, a market is copied whole, and a call lends one share of it.
 #[derive(Clone, Copy)]
 pub struct Market {
     shares: [Share; SHARES],

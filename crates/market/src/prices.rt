@@ -33,7 +33,7 @@ pub(crate) fn copy_prices(row: &mut [Price], closes: &[u32]) -> Result<(), Marke
     Ok(())
 }
 
-// A level of 0 is missing.
+// A level of 0 is missing: levels come in as plain numbers, which the call checks.
 fn check_level(level: u32) -> Result<(), MarketFault>
     ensures { result_err result ≡ first_fault (level_check level ∷ []) }
 {

@@ -66,9 +66,11 @@ pub type Reply = Result<Answer, Refusal>;
 #[derive(Drop)]
 pub struct Replayed {
     pub replies: Vec<Reply>,
+    // how many slips were written, into the caller's places
     pub written: usize,
 }
 
+// Both by hand: clauses name the fault that `?` makes, and a derived `From` says nothing of it.
 impl From<MarketFault> for Refusal {
     ghost from_gives = { λ f r. r ≡ why.ByMarket f };
 
@@ -174,6 +176,7 @@ impl<'a, C: Condition + Copy> Runner<'a, C> {
         ensures room { vec_capacity replies.new ≡ vec_capacity replies.old }
         ensures grown { vec_len replies.new ≡ vec_len replies.old + length requests.now }
     {
+        // added up here: each request is lent the places after those already written
         let mut written = 0;
         for request in requests {
             let reply = self.carry_out(request, &mut slips[written..]);
@@ -200,7 +203,7 @@ impl<'a, C: Condition + Copy> Runner<'a, C> {
 
 // Carries out the requests on a new book over the rows, and a new market. The slips fill from the first place on; each request has the
 // places that are left. Tickets still held after the last request are settled with nothing filled. It refuses only for want of memory,
-// and then before the first request.
+// and then before the first request. Each parameter is one that its caller has.
 pub fn replay<'r, C: Condition + Copy>(
     heap: Global,
     rows: &mut [Row<C>],

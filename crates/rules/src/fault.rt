@@ -98,7 +98,7 @@ impl From<MakingFault> for PlacingFault {
 }
 
 impl MarketFault {
-    // The number by which a refusal is known, as its definition has it.
+    // The number by which a refusal is known, as its definition has it. By match: a fault that holds another has that one's number.
     pub fn number(&self) -> u8
         ensures { result ≡ market_number self.now }
     {
@@ -118,7 +118,7 @@ impl MarketFault {
 }
 
 impl PlacingFault {
-    // The number by which a refusal is known, as its definition has it.
+    // The number by which a refusal is known, as its definition has it. By match: a fault that holds another has that one's number.
     pub fn number(&self) -> u8
         ensures { result ≡ placing_number self.now }
     {

@@ -59,7 +59,7 @@ impl TryFrom<u8> for PriceChoice {
     }
 }
 
-// What an order asks for beside its condition, as it comes in: placing checks it.
+// What an order asks for beside its condition, in plain numbers as it comes in: placing checks them, and refuses by number.
 #[derive(Clone, Copy, PartialEq, Eq, Default, Debug)]
 pub struct Terms {
     pub number: u32,

@@ -39,9 +39,8 @@ pub(crate) struct InputLine<'a> {
     pub(crate) bytes: &'a [u8],
 }
 
-// The lines of the input. The last one needs no newline. Not `split` and `enumerate`: each function over the lines would have to
-// be generic in the closure that they hold, and to ask that it can be called and that the count fits; and `line_end` says where a
-// line ends.
+// The lines of the input. The last one needs no newline. Tried with `split` and `enumerate`: in each loop over the lines it stayed
+// open that the closure which they hold can be called, and that the count fits.
 #[derive(Drop)]
 pub(crate) struct ByteLines<'a> {
     rest: &'a [u8],

@@ -76,6 +76,7 @@ pub(crate) struct OrderLine {
     pub(crate) order: OrderName,
 }
 
+// A range as the line says it, in numbers that nothing has checked yet.
 #[derive(Clone, Copy)]
 pub(crate) struct RangeLine {
     pub(crate) low: u32,

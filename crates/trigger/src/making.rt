@@ -140,7 +140,7 @@ fn kind_of(line: KindLine) -> Result<Made<SingleShot, Repeating>, MakingFault> {
     })
 }
 
-// The prices of a range, before they are put in order.
+// The prices of a range, before they are put in order. Not a `RangeLine`: its numbers are prices already.
 #[derive(Clone, Copy)]
 struct Ends {
     low: Price,

@@ -10,6 +10,7 @@ use std::str::SplitWhitespace;
 use values::decimal::{DecimalFault, read_decimal};
 
 // A step of a price: a part of it, in hundredths of a percent, or a difference, in ten-thousandths of a yuan.
+// Not a `Step`: these are numbers that nothing has checked yet.
 #[derive(Clone, Copy)]
 pub(crate) enum StepLine {
     Percent(u32),
@@ -121,10 +122,9 @@ impl<'a> Words<'a> {
 
     // The line has to end here.
     pub(crate) fn end(&mut self) -> Result<(), Unreadable> {
-        match self.left.next() {
-            Some(_) => Err(Unreadable::TooManyWords),
-            None => Ok(()),
-        }
+        self.left
+            .next()
+            .map_or(Ok(()), |_| Err(Unreadable::TooManyWords))
     }
 
     // Reads the next word, which is that of the field.

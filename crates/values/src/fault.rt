@@ -26,7 +26,7 @@ pub enum MakingFault {
 }
 
 impl MakingFault {
-    // The number by which a refusal is known where plain numbers are passed.
+    // The number by which a refusal is known where plain numbers are passed. By match: three faults share one, and there is no 6.
     pub fn number(&self) -> u8
         ensures { result ≡ making_number self.now }
     {

@@ -90,6 +90,7 @@ impl<'a, C: Condition> Book<'a, C> {
         ensures count { result.written ≤ length slips.old }
         ensures rest { drop result.written slips.new ≡ drop result.written slips.old }
     {
+        // added up here: each quote is lent the places after those already written
         let mut written = 0;
         for (taken, quote) in quotes.iter().enumerate() {
             match self.quote(market, *quote, &mut slips[written..]) {

@@ -63,6 +63,7 @@ impl<T: Test> Condition for Held<T> {
 
     fn tell(&mut self, event: Event) -> Answer {
         match event {
+            // by match: one arm changes the run of yes ticks, which a closure would have to capture
             Event::Tick(t) => match &self.day {
                 Some(day) => {
                     let trigger = self.test.judge(day, t.price);
