@@ -2,7 +2,7 @@
 -- f is what a row stands for, `turn` what it becomes, nothing where it leaves, and `write` the slips that it writes.
 use Rattle.std.proofs.Common.{◌≡◌, ℕ, ◌+◌, ◌<◌, ◌≤◌, Bool, true, false, cond, List, [], ◌∷◌, ◌++◌, map, length, get_or, take, drop, set, count_by, sym, refl, ap, ◌∙◌, arith}
 use Rattle.std.specs.List.{flat_map}
-use Rattle.std.proofs.lemmas.List.{take-set-le, drop-set, drop-set-lt, drop-drop, at_drop_more, map-append, append_assoc, length-append}
+use Rattle.std.proofs.lemmas.List.{take-set-le, drop-set, drop-set-lt, drop-drop, at_drop_more, at_drop_all, map-append, append_assoc, append-nil, length-append, length-take-le, take-append-drop}
 use Rattle.std.proofs.lemmas.List.Sums.{sum_by-cons}
 
 module _ {X R : Type 0} (f : X → R) where
@@ -55,12 +55,22 @@ module _ {X R : Type 0} {f : X → R} {turn : R → List R} {xs ys : List X} {k 
             ∙ t.table;
       }
 
+  -- all are told
+  pub turned_all : Turned f turn xs ys k i → length ys ≤ i → map f (take k ys) ≡ flat_map turn (map f xs)
+  turned_all t h = sym (append-nil (map f (take k ys))) ∙ sym (at_drop_all (λ z. map f (take k ys) ++ flat_map turn (map f z)) ys i h) ∙ t.table
+
 -- The same, with slip places that held ps: w slips are written.
 pub record Passing {X R S : Type 0} (f : X → R) (turn : R → List R) (write : R → List S) (xs ys : List X) (ps qs : List S) (k w i : ℕ) : Type 0 where
   pub rows : Turned f turn xs ys k i
   pub room : w + length (flat_map write (map f (drop i ys))) ≤ length ps
   pub slips : take w qs ++ flat_map write (map f (drop i ys)) ≡ flat_map write (map f xs)
   pub rest : drop w qs ≡ drop w ps
+
+-- what the pass leaves
+pub record Passed {X R S : Type 0} (f : X → R) (turn : R → List R) (write : R → List S) (xs ys : List X) (ps qs : List S) (k w : ℕ) : Type 0 where
+  pub table : map f (take k ys) ≡ flat_map turn (map f xs)
+  pub written : w ≡ length (flat_map write (map f xs))
+  pub slips : qs ≡ flat_map write (map f xs) ++ drop w ps
 
 pub passing_none : {X R S : Type 0} {f : X → R} {write : R → List S} {xs : List X} {ps : List S} (turn : R → List R) → length (flat_map write (map f xs)) ≤ length ps → Passing f turn write xs xs ps ps 0 0 0
 passing_none turn h = record { rows = turned_none; room = omega arith; slips = refl; rest = refl }
@@ -89,4 +99,15 @@ module _ {X R S : Type 0} {f : X → R} {turn : R → List R} {write : R → Lis
         room = rw (next, same) (room_from d new p h new_is);
         slips = ap (λ z. z ++ flat_map write (map f (drop (i + 1) ys'))) written ∙ append_assoc (take w qs) new (flat_map write (map f (drop (i + 1) ys'))) ∙ ap (λ z. take w qs ++ z) all ∙ p.slips;
         rest = rest_is ∙ further w w' (length new) qs ps next p.rest;
+      }
+
+  -- the pass is over
+  pub passing_all : Passing f turn write xs ys ps qs k w i → length ys ≤ i → length qs ≡ length ps → Passed f turn write xs ys ps qs k w
+  passing_all p h e =
+      let t : take w qs ≡ flat_map write (map f xs) = sym (append-nil (take w qs)) ∙ sym (at_drop_all (λ z. take w qs ++ flat_map write (map f z)) ys i h) ∙ p.slips in
+      let l : length (take w qs) ≡ w = length-take-le w qs (omega (arith, p.room)) in
+      record {
+        table = turned_all p.rows h;
+        written = sym l ∙ ap length t;
+        slips = sym (take-append-drop w qs) ∙ ap (λ z. z ++ drop w qs) t ∙ ap (λ z. flat_map write (map f xs) ++ z) p.rest;
       }

@@ -1,5 +1,5 @@
 -- A number within the ends is the price that it should be.
-use Rattle.std.proofs.Common.{◌≡◌, ℕ, Bool, true, false, cond, ◌&&◌, leb, Some, None, Ok, Err, Option, Result, sym, refl, ap, ◌∙◌, le-leb, leb-true}
+use Rattle.std.proofs.Common.{◌≡◌, ℕ, ◌≤◌, Bool, true, false, cond, ◌&&◌, leb, Some, None, Ok, Err, Option, Result, sym, refl, ap, ◌∙◌, le-leb, leb-true}
 use native.Mathlib.Bridge.{le_prop}
 use borrow.Author.Tests.{clash}
 use Rattle.std.specs.Option.{ok_or}
@@ -9,6 +9,7 @@ use Rattle.values.specs.Making.{seen, checked}
 use Rattle.values.specs.Prices.{priced, priced_when, reached_target}
 use Rattle.values.specs.declared.fault.MakingFault.{MakingFault}
 use Rattle.values.specs.declared.fault.MakingFault.TheVariants as making
+use Rattle.values.specs.Ranges.{whole}
 use Rattle.values.specs.declared.price.Price.{Price}
 use Rattle.values.specs.declared.step.Step.{Step}
 
@@ -55,3 +56,14 @@ module _ (order : ℕ → ℕ → Bool) (target : Step → ℕ → ℕ) (s : Ste
   pub reached_at : (base price t : Price) → t.value ≡ target s base.value → true ≡ order t.value price.value → Some t ≡ reached_target order target s base price
   reached_at base price t e r =
       sym (priced_price t) ∙ ap (λ b. cond b (priced t.value) None) r ∙ ap (λ n. cond (order n price.value) (priced n) None) e
+
+-- a range of all prices, whatever the proofs of its facts
+pub whole_same : (a : least_price ≤ least_price) (b : least_price ≤ greatest_price) (c : least_price ≤ greatest_price) (d : greatest_price ≤ greatest_price) (o : least_price ≤ greatest_price)
+    → record { low = record { value = least_price; low = a; high = b }; high = record { value = greatest_price; low = c; high = d }; ordered = o } ≡ whole
+whole_same a b c d o =
+    λ i.
+    record {
+      low = record { value = least_price; low = le_prop a whole.low.low i; high = le_prop b whole.low.high i };
+      high = record { value = greatest_price; low = le_prop c whole.high.low i; high = le_prop d whole.high.high i };
+      ordered = le_prop o whole.ordered i;
+    }
