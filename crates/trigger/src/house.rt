@@ -1,11 +1,12 @@
 // The house's two books, what the lines make of them, and the tickets that it holds.
 use crate::answering::{Answer, Granted, Head, Shown, print_answer, print_slips, print_unreadable};
-use crate::line::{BookName, Line, OrderLine, PlaceLine};
+use crate::line::{BookName, Line, OrderLine, OrderName, PlaceLine};
 use crate::making::{Made, condition_of};
 use crate::settings::Settings;
-use crate::slip_desk::{Call, Held, SlipDesk};
+use crate::slip_desk::{Call, SlipDesk};
 use crate::unreadable::Unreadable;
 use book::row::Row;
+use book::ticket::Ticket;
 use conditions::layer::pile::Pile;
 use kinds::book_kinds::{Repeating, SingleShot};
 use rules::quote::Quote;
@@ -51,7 +52,7 @@ pub(crate) struct House<'a> {
     // kept from line to line: if a burst pulled its own lines, the loop over the lines would need a proof that it still ends
     gathering: Option<Gathering>,
     // the oldest first
-    tickets: VecDeque<Held>,
+    tickets: VecDeque<Ticket>,
 }
 
 impl<'a> House<'a> {
@@ -188,7 +189,8 @@ impl<'a> House<'a> {
             mut tickets,
         } = self;
         let mut done = before;
-        while let Some(Held { order, ticket }) = tickets.pop_front() {
+        while let Some(ticket) = tickets.pop_front() {
+            let order = OrderName::of(&ticket);
             let answer = match order.book {
                 BookName::Single => single.give_up(ticket),
                 BookName::Grid => grid.give_up(ticket),

@@ -8,6 +8,7 @@ use crate::unreadable::{ReadFault, Unreadable};
 use crate::words::{
     Words, read_byte, read_day, read_moment, read_number, read_percent, read_price,
 };
+use book::ticket::Ticket;
 use rules::opening::Opening;
 use rules::order::Terms;
 use rules::quote::{Levels, Quote};
@@ -41,6 +42,21 @@ impl fmt::Display for BookName {
 pub(crate) struct OrderName {
     pub(crate) book: BookName,
     pub(crate) number: u32,
+}
+
+impl OrderName {
+    // The order that a ticket is for, which the ticket itself shows: so a ticket is held without its name beside it.
+    pub(crate) fn of(ticket: &Ticket) -> OrderName {
+        let book = if ticket.book() == BookName::Grid.number() {
+            BookName::Grid
+        } else {
+            BookName::Single
+        };
+        OrderName {
+            book,
+            number: ticket.number(),
+        }
+    }
 }
 
 impl fmt::Display for OrderName {
@@ -264,11 +280,11 @@ pub(crate) fn read_line(heap: Global, text: &str) -> Result<Option<Line>, ReadFa
     let Some(first) = words.left.next() else {
         return Ok(None);
     };
-    let line = if first == "list" {
-        read_list(heap, &mut words)?
-    } else {
-        read_form(first, &mut words)?
-    };
+    if first == "list" {
+        // it takes all words, so none is left; to look for one more would go over the blanks at the line's end again
+        return read_list(heap, &mut words).map(Some);
+    }
+    let line = read_form(first, &mut words)?;
     words.end()?;
     Ok(Some(line))
 }

@@ -67,12 +67,6 @@ fn without_slips<'a>(answer: Answer) -> Heard<'a> {
     Heard { answer, slips: &[] }
 }
 
-// A ticket that the house holds, with the order that was claimed.
-pub(crate) struct Held {
-    pub(crate) order: OrderName,
-    pub(crate) ticket: Ticket,
-}
-
 #[derive(Drop)]
 pub(crate) struct SlipDesk<'a, C> {
     desk: Desk<'a, C>,
@@ -170,7 +164,7 @@ impl<'a, C: Condition + Drop> SlipDesk<'a, C> {
     // Claims an order, and holds its ticket. A ticket for which there is no memory is given up.
     fn claim(
         &mut self,
-        tickets: &mut VecDeque<Held>,
+        tickets: &mut VecDeque<Ticket>,
         order: OrderName,
     ) -> Result<Granted, AllocError> {
         let ticket = self.desk.claim(order.number);
@@ -179,11 +173,10 @@ impl<'a, C: Condition + Drop> SlipDesk<'a, C> {
         } else {
             Granted::Ticket
         };
-        match tickets.push_back(Held { order, ticket }) {
+        match tickets.push_back(ticket) {
             Ok(()) => Ok(granted),
             Err(back) => {
-                let Held { order: _, ticket } = back.value;
-                let _ = self.give_up(ticket);
+                let _ = self.give_up(back.value);
                 Err(AllocError)
             }
         }
@@ -192,13 +185,13 @@ impl<'a, C: Condition + Drop> SlipDesk<'a, C> {
     // Settles by the oldest ticket for the order.
     fn settle(
         &mut self,
-        tickets: &mut VecDeque<Held>,
+        tickets: &mut VecDeque<Ticket>,
         order: OrderName,
         fill: Option<u32>,
     ) -> Answer {
         let at = oldest(tickets, order).ok_or(Refusal::NoTicket)?;
         let price = fill.map(Price::new).transpose()?;
-        let Held { order: _, ticket } = tickets.remove(at).unwrap();
+        let ticket = tickets.remove(at).unwrap();
         self.spend(ticket, price)
     }
 
@@ -208,7 +201,7 @@ impl<'a, C: Condition + Drop> SlipDesk<'a, C> {
 
     pub(crate) fn ask(
         &mut self,
-        tickets: &mut VecDeque<Held>,
+        tickets: &mut VecDeque<Ticket>,
         line: &OrderLine,
     ) -> Result<Answer, AllocError> {
         let order = line.order;
@@ -222,8 +215,10 @@ impl<'a, C: Condition + Drop> SlipDesk<'a, C> {
 }
 
 // The place of the oldest ticket for the order.
-fn oldest(tickets: &VecDeque<Held>, order: OrderName) -> Option<usize>
+fn oldest(tickets: &VecDeque<Ticket>, order: OrderName) -> Option<usize>
     ensures { IfSome result (λ at. at < deque_len tickets.now) }
 {
-    tickets.iter().position(|held| held.order == order)
+    tickets
+        .iter()
+        .position(|ticket| OrderName::of(ticket) == order)
 }

@@ -1,5 +1,5 @@
 use Rattle.std.proofs.Common.{deque_len}
 use Rattle.trigger.proofs.house.House.close.Given as goal
 
-abbrev pub decreases-loop-order : goal.decreases-loop-order
-decreases-loop-order l = deque_len l.tickets
+abbrev pub decreases-loop-ticket : goal.decreases-loop-ticket
+decreases-loop-ticket l = deque_len l.tickets
